@@ -1,0 +1,21 @@
+-- Which number below n comes first, as a `Place`. Assumes nothing.
+use Prim.Native.Nat.{ℕ, zero, suc}
+use mathlib.Core.Bool.{Bool, true, false, _&&_, cond}
+use lib.Dec.{eqb}
+use Rattle.base.specs.Range.{count}
+use Rattle.base.specs.declared.Place.{Place}
+use Rattle.base.specs.declared.Place.the-variants.{At, Nothing}
+
+-- the first of two that is there
+abbrev pub orElse : Place → Place → Place
+orElse (At k) f = At k
+orElse Nothing f = f
+
+-- the first number below n of which p holds
+unfoldable pub first : ℕ → (ℕ → Bool) → Place
+first zero p = Nothing
+first (suc n) p = orElse (first n p) (cond (p n) (At n) Nothing)
+
+-- the number below n of which p holds and that has m such before it
+unfoldable pub nth : ℕ → (ℕ → Bool) → ℕ → Place
+nth n p m = first n (λ k. p k && eqb (count k p) m)

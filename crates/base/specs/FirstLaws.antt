@@ -1,0 +1,80 @@
+-- What a loop that counts up shows of `first`. Assumes nothing.
+use Prim.Native.Nat.{ℕ, zero, suc, _+_, _≤_, _<_}
+use mathlib.Core.Path.{_≡_, refl, sym, ap, _∙_, subst}
+use mathlib.Core.Bool.{Bool, true, false, cond, true≢false, _&&_}
+use lib.Dec.{eqb}
+use borrow.Author.Tests.{eq-eqb, ne-eqb}
+use native.Mathlib.Nat.{add-zero}
+use Rattle.base.specs.Range.{count}
+use Rattle.base.specs.RangeLaws.{count-none, count-more}
+use mathlib.Core.Logic.{_⊎_, inl, inr, ⊎-elim}
+use native.Mathlib.Nat.{le-antisymm, not-suc-le-zero, le-of-suc-le-suc, eq-or-lt-of-le}
+use native.Mathlib.Numerals.{add-one}
+use native.Mathlib.Omega.{arith}
+use Rattle.base.specs.declared.Place.{Place}
+use Rattle.base.specs.declared.Place.the-variants.{At, Nothing}
+use Rattle.base.specs.First.{first, nth, orElse}
+
+module _ (p : ℕ → Bool) where
+  pub first-none : first 0 p ≡ Nothing
+  unfolding first
+  first-none = refl
+
+  -- one more turn
+  pub first-more : (i : ℕ) → first i p ≡ Nothing → p i ≡ false → first (i + 1) p ≡ Nothing
+  unfolding first
+  first-more i h q = rw (add-one, h, q)
+
+  -- every turn was made
+  pub first-done : (i n : ℕ) → i ≤ n → n ≤ i → first i p ≡ Nothing → Nothing ≡ first n p
+  first-done i n a b h = subst (λ (m : ℕ). Nothing ≡ first m p) (le-antisymm a b) (sym h)
+
+  -- found at i
+  pub first-hit : (n i : ℕ) → first i p ≡ Nothing → p i ≡ true → i < n → At i ≡ first n p
+  unfolding first
+  first-hit zero i h q l = absurd (not-suc-le-zero l)
+  first-hit (suc n) i h q l =
+      ⊎-elim
+      (λ e. let h′ : first n p ≡ Nothing = rw e at h in let q′ : p n ≡ true = rw e at q in rw (h′, q′) (ap At e))
+      (λ lt. rw (← first-hit n i h q lt))
+      (eq-or-lt-of-le (le-of-suc-le-suc l))
+
+  found-here : (n k : ℕ) (b : Bool) → p n ≡ b → cond b (At n) Nothing ≡ At k → (k < suc n) × (p k ≡ true)
+  found-here n k true q f = let m : n ≡ k = cc in (omega arith, rw m at q)
+  found-here n k false q f = let z : _≡_ {A = Bool} true false = cc in absurd (true≢false z)
+
+  found-step : (n k : ℕ) (f : Place) → (f ≡ At k → (k < n) × (p k ≡ true)) → orElse f (cond (p n) (At n) Nothing) ≡ At k → (k < suc n) × (p k ≡ true)
+  found-step n k (At j) ih g = let w = ih g in (omega arith, w .1)
+  found-step n k Nothing ih g = found-here n k (p n) refl g
+
+  -- what is found is below n, and p holds of it
+  pub first-at : (n k : ℕ) → first n p ≡ At k → (k < n) × (p k ≡ true)
+  unfolding first
+  first-at zero k e = let z : _≡_ {A = Bool} true false = cc in absurd (true≢false z)
+  first-at (suc n) k e = found-step n k (first n p) (first-at n k) e
+
+-- A loop that looks for the number that p holds of and that has m such before it: its invariant, and a law for each way through a turn.
+pub record Nth (p : ℕ → Bool) (m before k : ℕ) : Type 0 where
+  pub le : before ≤ k
+  pub is : before ≡ count k p
+  pub none : first k (λ i. p i && eqb (count i p) m) ≡ Nothing
+
+module _ (p : ℕ → Bool) (m : ℕ) where
+  pub nth-start : Nth p m 0 0
+  nth-start = record { le = omega arith; is = sym (count-none p); none = first-none _ }
+
+  pub nth-skip : (before k : ℕ) → Nth p m before k → p k ≡ false → Nth p m before (k + 1)
+  nth-skip before k h q =
+      record { le = omega arith; is = rw (count-more, q, add-zero) (h .is); none = first-more _ k (h .none) (rw q) }
+
+  pub nth-past : (before k : ℕ) → Nth p m before k → p k ≡ true → (before ≡ m → ⊥) → Nth p m (before + 1) (k + 1)
+  nth-past before k h q ne =
+      record { le = omega arith; is = rw (count-more, q, ← h .is); none = first-more _ k (h .none) (rw (q, ← h .is, ne-eqb before m ne)) }
+
+  pub nth-hit : (n before k : ℕ) → Nth p m before k → p k ≡ true → before ≡ m → k < n → At k ≡ nth n p m
+  unfolding nth
+  nth-hit n before k h q e l = first-hit _ n k (h .none) (rw (q, ← h .is, eq-eqb before m e)) l
+
+  pub nth-done : (n before k : ℕ) → Nth p m before k → k ≤ n → n ≤ k → Nothing ≡ nth n p m
+  unfolding nth
+  nth-done n before k h a b = first-done _ k n a b (h .none)

@@ -1,0 +1,12 @@
+pub mod Choice
+pub mod Range
+pub mod RangeLaws
+pub mod First
+pub mod FirstLaws
+pub mod Tables
+pub mod Keyed
+pub mod KeyedLaws
+pub mod Pigeon
+pub mod Words
+pub mod WordsLaws
+pub mod Tail

@@ -1,0 +1,5 @@
+pub mod Bits
+pub mod Cut
+pub mod Floor
+pub mod Held
+pub mod Trip

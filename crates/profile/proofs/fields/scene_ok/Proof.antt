@@ -1,0 +1,25 @@
+-- `profile::fields::scene_ok` meets its contract. Assumes nothing.
+use borrow.Author.Needs.{needs}
+use Rattle.base.specs.Range.{every}
+use Rattle.profile.proofs.fields.scene_ok.Statement.{statement}
+use Rattle.profile.proofs.fields.scene_ok.Tie as tie
+
+byte-requires : tie.Need-byte-requires
+byte-requires c κs = search needs
+
+is-zeros-requires : tie.Need-is-zeros-requires
+is-zeros-requires c κs = search needs
+
+half-requires : tie.Need-half-requires
+half-requires c κs = search needs
+
+is-zeros-requires-2 : tie.Need-is-zeros-requires-2
+is-zeros-requires-2 c κs = search needs
+
+returns : tie.Need-returns
+unfolding every
+returns c = cc
+
+pub scene-ok-spec : {M : Type 1} → statement M
+scene-ok-spec =
+    tie.close (tie.spec byte-requires is-zeros-requires half-requires is-zeros-requires-2 returns)

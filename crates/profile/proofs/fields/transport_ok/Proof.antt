@@ -1,0 +1,39 @@
+-- `profile::fields::transport_ok` meets its contract. Assumes nothing.
+use borrow.Author.Needs.{needs}
+use Rattle.base.specs.Range.{every}
+use Rattle.profile.proofs.fields.transport_ok.Statement.{statement}
+use Rattle.profile.proofs.fields.transport_ok.Tie as tie
+
+byte-requires : tie.Need-byte-requires
+byte-requires c κs = search needs
+
+byte-requires-2 : tie.Need-byte-requires-2
+byte-requires-2 c κs = search needs
+
+is-zeros-requires : tie.Need-is-zeros-requires
+is-zeros-requires c κs = search needs
+
+half-requires : tie.Need-half-requires
+half-requires c κs = search needs
+
+half-requires-2 : tie.Need-half-requires-2
+half-requires-2 c κs = search needs
+
+is-zeros-requires-2 : tie.Need-is-zeros-requires-2
+is-zeros-requires-2 c κs = search needs
+
+returns : tie.Need-returns
+unfolding every
+returns c = cc
+
+pub transport-ok-spec : {M : Type 1} → statement M
+transport-ok-spec =
+    tie.close
+    (tie.spec
+    byte-requires
+    byte-requires-2
+    is-zeros-requires
+    half-requires
+    half-requires-2
+    is-zeros-requires-2
+    returns)

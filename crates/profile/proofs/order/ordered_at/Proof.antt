@@ -1,0 +1,22 @@
+-- `profile::order::ordered_at` meets its contract. Assumes nothing.
+use borrow.Author.Needs.{needs}
+use Rattle.base.specs.Range.{every}
+use Rattle.profile.specs.Profile.{orderedAt}
+use Rattle.profile.proofs.order.ordered_at.Statement.{statement}
+use Rattle.profile.proofs.order.ordered_at.Tie as tie
+
+byte-requires : tie.Need-byte-requires
+byte-requires c κs = search needs
+
+byte-requires-2 : tie.Need-byte-requires-2
+byte-requires-2 c κs = search needs
+
+wide-requires : tie.Need-wide-requires
+wide-requires c κs = search needs
+
+returns : tie.Need-returns
+unfolding orderedAt every
+returns c = cc
+
+pub ordered-at-spec : {M : Type 1} → statement M
+ordered-at-spec = tie.close (tie.spec byte-requires byte-requires-2 wide-requires returns)

@@ -1,0 +1,54 @@
+-- `profile::order::slot` meets its contract. Assumes nothing.
+use native.Mathlib.Omega.{arith}
+use borrow.Author.Needs.{needs}
+use Rattle.profile.proofs.order.slot.Statement.{statement}
+use Rattle.profile.proofs.order.slot.Tie as tie
+
+byte-requires : tie.Need-byte-requires
+byte-requires c κs = search needs
+
+wide-requires : tie.Need-wide-requires
+wide-requires c κs = search needs
+
+byte-requires-2 : tie.Need-byte-requires-2
+byte-requires-2 c κs = search needs
+
+wide-requires-2 : tie.Need-wide-requires-2
+wide-requires-2 c κs = search needs
+
+byte-requires-3 : tie.Need-byte-requires-3
+byte-requires-3 c κs = search needs
+
+wide-requires-3 : tie.Need-wide-requires-3
+wide-requires-3 c κs = search needs
+
+mul-result : tie.Need-mul-result
+mul-result c = search needs
+
+mul-result-2 : tie.Need-mul-result-2
+mul-result-2 c = search needs
+
+add-result : tie.Need-add-result
+add-result c = search needs
+
+add-result-2 : tie.Need-add-result-2
+add-result-2 c = search needs
+
+returns : tie.Need-returns
+returns c = (cc, omega arith)
+
+pub slot-spec : {M : Type 1} → statement M
+slot-spec =
+    tie.close
+    (tie.spec
+    byte-requires
+    wide-requires
+    byte-requires-2
+    wide-requires-2
+    byte-requires-3
+    wide-requires-3
+    mul-result
+    mul-result-2
+    add-result
+    add-result-2
+    returns)

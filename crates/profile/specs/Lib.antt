@@ -1,0 +1,6 @@
+pub mod RangeMore
+pub mod Profile
+pub mod Fields
+pub mod Order
+pub mod Limits
+pub mod Accepted

@@ -4,6 +4,7 @@ use mathlib.Core.Path.{_≡_, refl, _∙_}
 use mathlib.Core.List.{List}
 use mathlib.Core.Bool.{Bool, true, false, not, cond, _||_}
 use mathlib.Core.Logic.{_⊎_, inl, inr, ⊎-elim}
+use native.Mathlib.Nat.{le-antisymm, eq-or-lt-of-le}
 use native.Mathlib.Numerals.{add-one}
 use native.Mathlib.Omega.{arith}
 use lib.Ieee.Scale.{finite}
@@ -101,3 +102,21 @@ module _ (s : List ℕ) (yes : verdict s ≡ 0) where
       let w = count-reach (isKind s 1) b (records s) l in
       let q = eqb-true (byteAt s (w .0) 0) 1 (w .2) in
       (w .0, w .1, q, bank-runs (w .0) (w .1) q ∙ w .3)
+
+  -- kinds never fall: a later record's is at least an earlier one's
+  pub kinds-rise : (j k : ℕ) → j ≤ k → k < records s → byteAt s j 0 ≤ byteAt s k 0
+  kinds-rise j zero h l = rw (le-antisymm h (omega arith)) (omega arith)
+  kinds-rise j (suc k) h l =
+      ⊎-elim
+      (λ e. rw e (omega arith))
+      (λ m. let q : byteAt s k 0 ≤ byteAt s (suc k) 0 = rw add-one at (kind-rises k (omega arith)) in omega (arith, kinds-rise j k (omega arith) (omega arith)))
+      (eq-or-lt-of-le h)
+
+  -- the settings are the first record
+  pub settings-first : byteAt s 0 0 ≡ 0
+  unfolding orderOk kindCount
+  settings-first =
+      let one : count (records s) (isKind s 0) ≡ 1 = eqb-true (count (records s) (isKind s 0)) 1 (every-at _ 0 (accepted s yes .order)) in
+      let w = count-reach (isKind s 0) 0 (records s) (omega arith) in
+      let q = eqb-true (byteAt s (w .0) 0) 0 (w .2) in
+      omega (arith, kinds-rise 0 (w .0) (omega arith) (w .1))

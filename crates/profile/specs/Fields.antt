@@ -1,5 +1,5 @@
 -- What fields in range are, as facts on numbers. Assumes nothing.
-use Prim.Native.Nat.{ℕ, _≤_, _<_}
+use Prim.Native.Nat.{ℕ, _+_, _≤_, _<_}
 use mathlib.Core.Path.{_≡_}
 use mathlib.Core.List.{List}
 use mathlib.Core.Bool.{true}
@@ -77,6 +77,7 @@ module _ (s : List ℕ) (ok : fieldsOk s ≡ true) (k : ℕ) (in-file : k < reco
 -- a bank, a scene, a transport and a default button whose fields are in range
 pub record Bank (s : List ℕ) (k : ℕ) : Type 0 where
   pub own : byteAt s k 1 ≤ 15
+  pub number : byteAt s k 2 ≡ 0
   pub name : halfAt s k 4 < 65535
   pub driver : (halfAt s k 6 ≤ 15) ⊎ (halfAt s k 6 ≡ 65535)
   pub rec : byteAt s k 10 ≤ 2
@@ -103,6 +104,7 @@ module _ (s : List ℕ) (ok : fieldsOk s ≡ true) (k : ℕ) (in-file : k < reco
       let h = ok-bank s k (fields-at s ok k in-file 1 e) in
       record {
         own = leb-true _ _ (every-at _ 0 h);
+        number = eqb-true (byteAt s k 2) 0 (all-at (λ j. eqb (byteAt s k (2 + j)) 0) 2 0 (every-at _ 1 h) (omega arith));
         name = ltb-true _ _ (every-at _ 2 h);
         driver = ⊎-elim (λ a. inl (leb-true _ _ a)) (λ b. inr (eqb-true _ _ b)) (or-cases _ _ (every-at _ 3 h));
         rec = leb-true _ _ (every-at _ 4 h);

@@ -9,10 +9,10 @@ use native.Mathlib.Omega.{arith}
 use lib.ListN.{length, getD, set, replicate, length-set, length-replicate}
 use lib.Dec.{eqb, leb}
 use borrow.Author.Tests.{leb-true, eqb-true, eq-eqb, le-leb}
-use Rattle.base.specs.Range.{all, count}
+use Rattle.base.specs.Range.{all, count, every}
 use Rattle.base.specs.RangeLaws.{and-left, and-right, and-intro, bool-iff, all-cong, count-cong, count-le}
 use Rattle.base.specs.Tables.{hit, Counts, counts-none, counts-skip, counts-add}
-use Rattle.profile.specs.Profile.{records, byteAt, isKind, fieldsOk, countOf, atMost}
+use Rattle.profile.specs.Profile.{records, byteAt, isKind, fieldsOk, countOf, atMost, limitsOk}
 use Rattle.profile.specs.Fields.{scene-at, transport-at, button-at}
 
 -- scenes, transports and default buttons are counted
@@ -107,8 +107,22 @@ tally-add s table k at of e l h =
     }
 
 -- at the end, a kind's row has its counts
-pub tally-done : (s table : List ℕ) (k kind limit : ℕ) → fieldsOk s ≡ true → Kinds kind → k ≤ records s → records s ≤ k → Tally s table k → allAtMost table (kind % 4 * 256) limit ≡ atMost s kind limit
+tally-done : (s table : List ℕ) (k kind limit : ℕ) → fieldsOk s ≡ true → Kinds kind → k ≤ records s → records s ≤ k → Tally s table k → allAtMost table (kind % 4 * 256) limit ≡ atMost s kind limit
 unfolding allAtMost atMost
 tally-done s table k kind limit ok w a b h =
     let e : k ≡ records s = omega arith in
     all-cong _ _ 256 (λ v l. ap (λ (x : ℕ). leb x limit) (h .counts (kind % 4 * 256 + v) (omega (arith, w .high)) ∙ rw e (row-count s kind v ok w l)))
+
+-- the three limits, as `limits_ok` finds them
+pub tally-limits : (s table : List ℕ) (k : ℕ) → fieldsOk s ≡ true → k ≤ records s → records s ≤ k → Tally s table k →
+    (a b d : Bool) → a ≡ allAtMost table 0 128 → b ≡ allAtMost table 256 16 → d ≡ allAtMost table 512 16 → (a && (b && d)) ≡ limitsOk s
+unfolding limitsOk every
+tally-limits s table k ok l h t a b d e f g =
+    rw (
+      ← tally-done s table k 4 128 ok (record { low = omega arith; high = omega arith }) l h t,
+      ← tally-done s table k 5 16 ok (record { low = omega arith; high = omega arith }) l h t,
+      ← tally-done s table k 6 16 ok (record { low = omega arith; high = omega arith }) l h t,
+      ← e,
+      ← f,
+      ← g,
+    )

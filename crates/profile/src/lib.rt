@@ -28,7 +28,7 @@ pub fn examine(profile: &[u8]) -> u8
     if !order::order_ok(profile) {
         return 3;
     }
-    if order::count_kind(profile, 1) == 0 {
+    if view::count_kind(profile, 1) == 0 {
         return 4;
     }
     if !limits::limits_ok(profile) {

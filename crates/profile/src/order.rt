@@ -2,30 +2,13 @@
 ghost use mathlib.Core.Path.{_≡_};
 ghost use mathlib.Core.Bool.{true, not};
 ghost use Prim.Native.Nat.{_<_, _≤_};
-ghost use Rattle.base.specs.Range.{bit, count, all};
-ghost use Rattle.profile.specs.Profile.{records, isKind, kindCount, bankCount, kindBefore, orderedAt, control, onceEach, fieldsOk, orderOk};
+ghost use Rattle.base.specs.Range.{count, all};
+ghost use Rattle.profile.specs.Profile.{records, isKind, bankCount, kindBefore, orderedAt, control, onceEach, fieldsOk, orderOk};
 ghost use Rattle.profile.specs.Order.{slotAt};
 use crate::view::byte;
+use crate::view::count_kind;
+use crate::view::one;
 use crate::view::wide;
-
-fn one(b: bool) -> usize
-    ensures { λ r. ⌜ (r ≡ bit b) × (r ≤ 1) ⌝ }
-{
-    b as usize
-}
-
-pub fn count_kind(s: &[u8], kind: u8) -> usize
-    ensures { λ r. ⌜ r ≡ kindCount (now (s .entry)) kind ⌝ }
-{
-    let n = s.len() / 32;
-    let mut m: usize = 0;
-    let mut k = 0;
-    while k < n {
-        m += one(byte(s, k, 0) == kind);
-        k += 1;
-    }
-    m
-}
 
 // Record k stands where it may, behind a record of kind `last` and `before` banks, in a file of `banks` banks.
 fn ordered_at(s: &[u8], k: usize, last: u8, before: usize, banks: usize) -> bool

@@ -1,7 +1,8 @@
 // The records: 32 bytes each, read at a byte of the k-th.
 ghost use mathlib.Core.Path.{_≡_};
 ghost use Prim.Native.Nat.{_*_, _+_, _<_, _≤_};
-ghost use Rattle.profile.specs.Profile.{records, byteAt, halfAt, doubleAt};
+ghost use Rattle.base.specs.Range.{bit};
+ghost use Rattle.profile.specs.Profile.{records, byteAt, halfAt, doubleAt, kindCount};
 
 pub fn byte(s: &[u8], k: usize, o: usize) -> u8
     requires { ⌜ (k < records (now s)) × (o < 32) ⌝ }
@@ -28,4 +29,24 @@ pub fn wide(b: u8) -> usize
     ensures { λ r. ⌜ (r ≡ b) × (r < 256) ⌝ }
 {
     b as usize
+}
+
+pub fn one(b: bool) -> usize
+    ensures { λ r. ⌜ (r ≡ bit b) × (r ≤ 1) ⌝ }
+{
+    b as usize
+}
+
+// How many records are of the kind.
+pub fn count_kind(s: &[u8], kind: u8) -> usize
+    ensures { λ r. ⌜ r ≡ kindCount (now (s .entry)) kind ⌝ }
+{
+    let n = s.len() / 32;
+    let mut m: usize = 0;
+    let mut k = 0;
+    while k < n {
+        m += one(byte(s, k, 0) == kind);
+        k += 1;
+    }
+    m
 }

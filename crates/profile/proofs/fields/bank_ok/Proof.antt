@@ -27,7 +27,15 @@ is-zeros-requires-2 c κs = search needs
 
 returns : tie.Need-returns
 unfolding every
-returns c = cc
+returns c = rw (
+  ← c .before .before .before .before .before .before .half .ensures,
+  ← c .before .before .before .before .before .byte .ensures,
+  ← c .before .before .before .before .is-zeros .ensures,
+  ← c .before .before .before .half2 .ensures,
+  ← c .before .before .byte2 .ensures,
+  ← c .before .byte3 .ensures,
+  ← c .is-zeros2 .ensures,
+)
 
 pub bank-ok-spec : {M : Type 1} → statement M
 bank-ok-spec =

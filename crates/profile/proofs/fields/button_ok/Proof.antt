@@ -21,7 +21,13 @@ is-zeros-requires-2 c κs = search needs
 
 returns : tie.Need-returns
 unfolding every
-returns c = cc
+returns c = rw (
+  ← c .before .before .before .before .byte .ensures,
+  ← c .before .before .before .byte2 .ensures,
+  ← c .before .before .is-zeros .ensures,
+  ← c .before .half .ensures,
+  ← c .is-zeros2 .ensures,
+)
 
 pub button-ok-spec : {M : Type 1} → statement M
 button-ok-spec =

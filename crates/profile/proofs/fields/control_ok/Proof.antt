@@ -27,7 +27,15 @@ is-zeros-requires c κs = search needs
 
 returns : tie.Need-returns
 unfolding every
-returns c = cc
+returns c = rw (
+  ← c .before .before .before .before .before .before .byte .ensures,
+  ← c .before .before .before .before .before .byte2 .ensures,
+  ← c .before .before .before .before .byte3 .ensures,
+  ← c .before .before .before .half .ensures,
+  ← c .before .before .half2 .ensures,
+  ← c .before .half3 .ensures,
+  ← c .is-zeros .ensures,
+)
 
 pub control-ok-spec : {M : Type 1} → statement M
 control-ok-spec =

@@ -18,7 +18,12 @@ is-zeros-requires-2 c κs = search needs
 
 returns : tie.Need-returns
 unfolding every
-returns c = cc
+returns c = rw (
+  ← c .before .before .before .byte .ensures,
+  ← c .before .before .is-zeros .ensures,
+  ← c .before .half .ensures,
+  ← c .is-zeros2 .ensures,
+)
 
 pub scene-ok-spec : {M : Type 1} → statement M
 scene-ok-spec =

@@ -18,7 +18,12 @@ is-zeros-requires c κs = search needs
 
 returns : tie.Need-returns
 unfolding every
-returns c = cc
+returns c = rw (
+  ← c .before .before .before .byte .ensures,
+  ← c .before .before .byte2 .ensures,
+  ← c .before .byte3 .ensures,
+  ← c .is-zeros .ensures,
+)
 
 pub settings-ok-spec : {M : Type 1} → statement M
 settings-ok-spec =

@@ -24,7 +24,14 @@ is-zeros-requires-2 c κs = search needs
 
 returns : tie.Need-returns
 unfolding every
-returns c = cc
+returns c = rw (
+  ← c .before .before .before .before .before .byte .ensures,
+  ← c .before .before .before .before .byte2 .ensures,
+  ← c .before .before .before .is-zeros .ensures,
+  ← c .before .before .half .ensures,
+  ← c .before .half2 .ensures,
+  ← c .is-zeros2 .ensures,
+)
 
 pub transport-ok-spec : {M : Type 1} → statement M
 transport-ok-spec =

@@ -1,12 +1,10 @@
 -- `profile::limits::limits_ok` meets its contract. Assumes nothing.
-use Rattle.profile.specs.Limits.{counted, Tally, tally-start, tally-le, tally-skip, tally-add, tally-done}
+use Rattle.profile.specs.Limits.{counted, Tally, tally-start, tally-le, tally-skip, tally-add, tally-limits}
 use Prim.Native.Nat.{_≤_, _-_}
 use mathlib.Core.Path.{_≡_, sym, ap, _∙_}
 use native.Mathlib.Omega.{arith}
 use lib.ListN.{length, length-set}
 use borrow.Author.Needs.{needs}
-use Rattle.base.specs.Range.{every}
-use Rattle.profile.specs.Profile.{limitsOk}
 use Rattle.profile.proofs.limits.limits_ok.Statement.{statement}
 use Rattle.profile.proofs.limits.limits_ok.Tie as tie
 
@@ -74,14 +72,8 @@ all-at-most-requires-3 : tie.Need-all-at-most-requires-3 Inv-loop μ-loop
 all-at-most-requires-3 c κs = search needs
 
 returns : tie.Need-returns Inv-loop μ-loop
-unfolding limitsOk every
 returns c = let at = c .before .before .before .before .before .before .before in
-    let ok = at .before .before .pre .1 in
-    cc (
-      tally-done _ (at .loop .table) _ 4 128 ok (record { low = omega arith; high = omega arith }) (omega arith) (omega arith) (at .loop .inv .2),
-      tally-done _ (at .loop .table) _ 5 16 ok (record { low = omega arith; high = omega arith }) (omega arith) (omega arith) (at .loop .inv .2),
-      tally-done _ (at .loop .table) _ 6 16 ok (record { low = omega arith; high = omega arith }) (omega arith) (omega arith) (at .loop .inv .2),
-    )
+    tally-limits _ (at .loop .table) (at .loop .k) (at .before .before .pre .1) (omega arith) (omega arith) (at .loop .inv .2) _ _ _ (c .before .before .before .before .all-at-most .ensures) (c .before .before .all-at-most2 .ensures) (c .all-at-most3 .ensures)
 
 pub limits-ok-spec : {M : Type 1} → statement M
 limits-ok-spec =

@@ -16,7 +16,11 @@ once-each-requires c κs = search needs
 
 returns : tie.Need-returns
 unfolding orderOk every
-returns c = cc
+returns c = rw (
+  ← c .before .before .count-kind .ensures,
+  ← c .before .ordered .ensures,
+  ← c .once-each .ensures,
+)
 
 pub order-ok-spec : {M : Type 1} → statement M
 order-ok-spec =

@@ -16,7 +16,8 @@ wide-requires c κs = search needs
 
 returns : tie.Need-returns
 unfolding orderedAt every
-returns c = cc
+returns c = let start = c .before .before .before .before in
+    rw (← c .before .before .byte .ensures, ← c .before .byte2 .ensures, ← c .wide .ensures .0, ← start .pre .1, ← start .pre .2, ← start .pre .3)
 
 pub ordered-at-spec : {M : Type 1} → statement M
 ordered-at-spec = tie.close (tie.spec byte-requires byte-requires-2 wide-requires returns)

@@ -1,8 +1,8 @@
--- `profile::order::one` meets its contract. Assumes nothing.
+-- `profile::view::one` meets its contract. Assumes nothing.
 use borrow.Author.Needs.{needs}
 use Rattle.base.specs.RangeLaws.{bit-le}
-use Rattle.profile.proofs.order.one.Statement.{statement}
-use Rattle.profile.proofs.order.one.Tie as tie
+use Rattle.profile.proofs.view.one.Statement.{statement}
+use Rattle.profile.proofs.view.one.Tie as tie
 
 cast-result : tie.Need-cast-result
 cast-result c = search needs

@@ -1,4 +1,4 @@
--- `profile::order::count_kind` meets its contract. Assumes nothing.
+-- `profile::view::count_kind` meets its contract. Assumes nothing.
 use Prim.Native.Nat.{_≤_, _-_}
 use mathlib.Core.Path.{_≡_, sym, _∙_}
 use native.Mathlib.Omega.{arith}
@@ -6,8 +6,8 @@ use borrow.Author.Needs.{needs}
 use Rattle.base.specs.Range.{count}
 use Rattle.base.specs.RangeLaws.{count-none, count-more, count-done}
 use Rattle.profile.specs.Profile.{isKind, kindCount}
-use Rattle.profile.proofs.order.count_kind.Statement.{statement}
-use Rattle.profile.proofs.order.count_kind.Tie as tie
+use Rattle.profile.proofs.view.count_kind.Statement.{statement}
+use Rattle.profile.proofs.view.count_kind.Tie as tie
 
 abbrev Inv-loop : tie.InvT-loop
 Inv-loop s kind n m₀ k₀ m k = (k ≤ n) × (m ≤ k) × (m ≡ count k (isKind s kind))

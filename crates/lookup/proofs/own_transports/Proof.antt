@@ -1,0 +1,88 @@
+-- `lookup::own_transports` meets its contract. Assumes nothing.
+use Prim.Native.Nat.{_≤_, _-_}
+use mathlib.Core.Path.{_≡_, sym, _∙_}
+use native.Mathlib.Omega.{arith}
+use borrow.Author.Needs.{needs}
+use Rattle.base.specs.Range.{count}
+use Rattle.base.specs.RangeLaws.{count-none}
+use Rattle.lookup.specs.Gather.{gather}
+use Rattle.lookup.specs.GatherLaws.{gather-none, walked-no, walked-yes}
+use Rattle.lookup.specs.Lookup.{ofPart, entryAt, seenEntries}
+use Rattle.lookup.specs.TransportLaws.{own-yes, own-no, own-done, own-few}
+use Rattle.lookup.proofs.own_transports.Statement.{statement}
+use Rattle.lookup.proofs.own_transports.Tie as tie
+
+abbrev Inv-loop : tie.InvT-loop
+Inv-loop profile bank end entries₀ k₀ entries k = (k ≤ end) × (entries .count ≤ k) × (entries .count ≡ count k (ofPart profile 5 bank)) × (seenEntries entries ≡ gather k (ofPart profile 5 bank) (entryAt profile))
+
+abbrev μ-loop : tie.MeasureT-loop
+μ-loop profile bank end entries₀ k₀ entries k = end - k
+
+no-entries-requires : tie.Need-no-entries-requires Inv-loop μ-loop
+no-entries-requires c κs = search needs
+
+loop-holds : tie.Need-loop-holds Inv-loop μ-loop
+loop-holds c = (search needs, omega (arith, c .no-entries .ensures .0), c .no-entries .ensures .0 ∙ sym (count-none _), c .no-entries .ensures .1 ∙ sym (gather-none _ _))
+
+add-k : tie.Need-add-k Inv-loop μ-loop
+add-k c = search needs
+
+of-part-requires : tie.Need-of-part-requires Inv-loop μ-loop
+of-part-requires c κs = search needs
+
+entry-at-requires : tie.Need-entry-at-requires Inv-loop μ-loop
+entry-at-requires c κs = search needs
+
+push-requires : tie.Need-push-requires Inv-loop μ-loop
+push-requires c κs = let at = c .before .before .before .before in
+    let start = at .before .before .before in
+    omega (arith, at .loop .inv .2, own-few (start .args .profile .now) (start .args .bank) (at .loop .k) (start .pre) (search needs) (omega arith))
+
+loop-less : tie.Need-loop-less Inv-loop μ-loop
+loop-less c = search needs
+
+loop-again : tie.Need-loop-again Inv-loop μ-loop
+loop-again c = let at = c .before .before .before .before .before in
+    let a = at .before .before .before .args in
+    let yes = sym (c .before .before .before .of-part .ensures) ∙ c .before .before .if1 .taken in
+    let w = walked-yes (ofPart (a .profile .now) 5 (a .bank)) _ _ (record { le = at .loop .inv .1; is = at .loop .inv .2 }) yes in (
+      omega arith,
+      omega (arith, c .push .ensures .0),
+      c .push .ensures .0 ∙ w .is,
+      own-yes (a .profile .now) (a .bank) (at .loop .k) _ (at .loop .inv .3) _ _ (c .push .ensures .1) (c .before .entry-at .ensures) yes,
+    )
+
+loop-less-2 : tie.Need-loop-less-2 Inv-loop μ-loop
+loop-less-2 c = search needs
+
+loop-again-2 : tie.Need-loop-again-2 Inv-loop μ-loop
+loop-again-2 c = let at = c .before .before .before in
+    let a = at .before .before .before .args in
+    let no = sym (c .before .of-part .ensures) ∙ c .if1 .left in
+    let w = walked-no (ofPart (a .profile .now) 5 (a .bank)) _ _ (record { le = at .loop .inv .1; is = at .loop .inv .2 }) no in
+    (omega arith, w .le, w .is, own-no (a .profile .now) (a .bank) (at .loop .k) _ (at .loop .inv .3) no)
+
+returns : tie.Need-returns Inv-loop μ-loop
+returns c = let start = c .before .before .before .before in
+    let s = start .args .profile .now in (
+      omega (arith, c .before .loop .inv .2, own-few s (start .args .bank) (c .before .loop .k) (start .pre) (search needs) (omega arith)),
+      own-done s (start .args .bank) (c .before .loop .k) _ (c .before .loop .inv .3) (omega arith) (omega arith),
+    )
+
+pub own-transports-spec : {M : Type 1} → statement M
+own-transports-spec =
+    tie.close
+    (tie.spec
+    Inv-loop
+    μ-loop
+    no-entries-requires
+    loop-holds
+    add-k
+    of-part-requires
+    entry-at-requires
+    push-requires
+    loop-less
+    loop-again
+    loop-less-2
+    loop-again-2
+    returns)

@@ -1,0 +1,62 @@
+-- `lookup::scene_count` meets its contract. Assumes nothing.
+use Prim.Native.Nat.{_≤_, _-_}
+use native.Mathlib.Omega.{arith}
+use borrow.Author.Needs.{needs}
+use Rattle.base.specs.RangeLaws.{count-more}
+use Rattle.lookup.specs.GatherLaws.{Walked, walked-none}
+use Rattle.lookup.specs.Lookup.{ofPart}
+use Rattle.lookup.specs.SceneLaws.{scenes-counted}
+use Rattle.lookup.proofs.scene_count.Statement.{statement}
+use Rattle.lookup.proofs.scene_count.Tie as tie
+
+abbrev Inv-loop : tie.InvT-loop
+Inv-loop profile bank n m₀ k₀ m k = (k ≤ n) × Walked (ofPart profile 4 bank) m k
+
+abbrev μ-loop : tie.MeasureT-loop
+μ-loop profile bank n m₀ k₀ m k = n - k
+
+loop-holds : tie.Need-loop-holds Inv-loop μ-loop
+loop-holds c = (search needs, walked-none _)
+
+of-part-requires : tie.Need-of-part-requires Inv-loop μ-loop
+of-part-requires c κs = search needs
+
+one-requires : tie.Need-one-requires Inv-loop μ-loop
+one-requires c κs = search needs
+
+add-m : tie.Need-add-m Inv-loop μ-loop
+add-m c = search needs
+
+add-k : tie.Need-add-k Inv-loop μ-loop
+add-k c = search needs
+
+loop-less : tie.Need-loop-less Inv-loop μ-loop
+loop-less c = search needs
+
+loop-again : tie.Need-loop-again Inv-loop μ-loop
+loop-again c = let at = c .before .before .before in
+    let a = at .before .before .args in (
+      omega arith,
+      record {
+        le = omega arith;
+        is = cc (at .loop .inv .1 .is, c .one .ensures .0, c .before .of-part .ensures, count-more (ofPart (a .profile .now) 4 (a .bank)) (at .loop .k));
+      },
+    )
+
+returns : tie.Need-returns Inv-loop μ-loop
+returns c = scenes-counted _ _ _ _ (c .before .loop .inv .1) (omega arith) (omega arith)
+
+pub scene-count-spec : {M : Type 1} → statement M
+scene-count-spec =
+    tie.close
+    (tie.spec
+    Inv-loop
+    μ-loop
+    loop-holds
+    of-part-requires
+    one-requires
+    add-m
+    add-k
+    loop-less
+    loop-again
+    returns)

@@ -1,0 +1,88 @@
+-- `lookup::transports` meets its contract. Assumes nothing.
+use Prim.Native.Nat.{_≤_, _-_, _+_}
+use mathlib.Core.Path.{_≡_, sym, _∙_}
+use native.Mathlib.Omega.{arith}
+use borrow.Author.Needs.{needs}
+use Rattle.base.specs.Range.{count}
+use Rattle.profile.specs.RangeMore.{count-mono, count-lt}
+use Rattle.lookup.specs.Gather.{gather}
+use Rattle.lookup.specs.Lookup.{ofPart, entryAt, transportsOf, merged, seenEntries}
+use Rattle.lookup.specs.TransportLaws.{own-few, merged-none, merged-yes, merged-no, merged-done}
+use Rattle.lookup.proofs.transports.Statement.{statement}
+use Rattle.lookup.proofs.transports.Tie as tie
+
+abbrev Inv-loop : tie.InvT-loop
+Inv-loop profile bank end entries₀ k₀ entries k = (k ≤ end) × (entries .count ≤ 16 + count k (ofPart profile 5 255)) × (seenEntries entries ≡ merged (gather k (ofPart profile 5 255) (entryAt profile)) (transportsOf profile bank))
+
+abbrev μ-loop : tie.MeasureT-loop
+μ-loop profile bank end entries₀ k₀ entries k = end - k
+
+own-transports-requires : tie.Need-own-transports-requires Inv-loop μ-loop
+own-transports-requires c κs = search needs
+
+loop-holds : tie.Need-loop-holds Inv-loop μ-loop
+loop-holds c = (search needs, omega (arith, c .own-transports .ensures .0), merged-none (c .before .before .args .profile .now) _ _ (c .own-transports .ensures .1))
+
+add-k : tie.Need-add-k Inv-loop μ-loop
+add-k c = search needs
+
+of-part-requires : tie.Need-of-part-requires Inv-loop μ-loop
+of-part-requires c κs = search needs
+
+entry-at-requires : tie.Need-entry-at-requires Inv-loop μ-loop
+entry-at-requires c κs = search needs
+
+put-requires : tie.Need-put-requires Inv-loop μ-loop
+put-requires c κs = let at = c .before .before .before .before in
+    let start = at .before .before .before in
+    let yes = sym (c .before .before .of-part .ensures) ∙ c .before .if1 .taken in
+    let p = ofPart (start .args .profile .now) 5 255 in
+    omega (arith, at .loop .inv .1, count-lt p (at .loop .k) (at .loop .k + 1) (omega arith) yes, own-few (start .args .profile .now) 255 (at .loop .k + 1) (start .pre) (omega arith) (omega arith))
+
+loop-less : tie.Need-loop-less Inv-loop μ-loop
+loop-less c = search needs
+
+loop-again : tie.Need-loop-again Inv-loop μ-loop
+loop-again c = let at = c .before .before .before .before .before in
+    let s = at .before .before .before .args .profile .now in
+    let yes = sym (c .before .before .before .of-part .ensures) ∙ c .before .before .if1 .taken in (
+      omega arith,
+      omega (arith, at .loop .inv .1, c .put .ensures .0, count-lt (ofPart s 5 255) (at .loop .k) (at .loop .k + 1) (omega arith) yes),
+      merged-yes s (at .loop .k) _ _ (at .loop .inv .2) _ _ (c .put .ensures .1) (c .before .entry-at .ensures) yes,
+    )
+
+loop-less-2 : tie.Need-loop-less-2 Inv-loop μ-loop
+loop-less-2 c = search needs
+
+loop-again-2 : tie.Need-loop-again-2 Inv-loop μ-loop
+loop-again-2 c = let at = c .before .before .before in
+    let s = at .before .before .before .args .profile .now in (
+      omega arith,
+      omega (arith, at .loop .inv .1, count-mono (ofPart s 5 255) (at .loop .k) (at .loop .k + 1) (omega arith)),
+      merged-no s (at .loop .k) _ _ (at .loop .inv .2) (sym (c .before .of-part .ensures) ∙ c .if1 .left),
+    )
+
+returns : tie.Need-returns Inv-loop μ-loop
+returns c = let start = c .before .before .before .before in
+    let s = start .args .profile .now in (
+      omega (arith, c .before .loop .inv .1, own-few s 255 (c .before .loop .k) (start .pre) (omega arith) (omega arith)),
+      merged-done s (c .before .loop .k) _ _ (c .before .loop .inv .2) (omega arith) (omega arith),
+    )
+
+pub transports-spec : {M : Type 1} → statement M
+transports-spec =
+    tie.close
+    (tie.spec
+    Inv-loop
+    μ-loop
+    own-transports-requires
+    loop-holds
+    add-k
+    of-part-requires
+    entry-at-requires
+    put-requires
+    loop-less
+    loop-again
+    loop-less-2
+    loop-again-2
+    returns)

@@ -1,0 +1,11 @@
+pub mod Gather
+pub mod Lookup
+pub mod View
+pub mod GatherLaws
+pub mod LookupLaws
+pub mod SceneLaws
+pub mod FirstMore
+pub mod TransportLaws
+pub mod CommonLaws
+pub mod Known
+pub mod Sample

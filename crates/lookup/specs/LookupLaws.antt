@@ -1,0 +1,52 @@
+-- What is known of a record that was looked up. Assumes nothing.
+use Prim.Native.Nat.{ℕ, _<_}
+use mathlib.Core.Path.{_≡_, sym, _∙_}
+use mathlib.Core.List.{List}
+use borrow.Author.Tests.{eqb-true}
+use Rattle.base.specs.RangeLaws.{every-at}
+use Rattle.base.specs.FirstLaws.{first-at}
+use Rattle.base.specs.declared.Place.{Place}
+use Rattle.base.specs.declared.Place.the-variants.{At}
+use Rattle.profile.specs.Profile.{records, byteAt}
+use Rattle.lookup.specs.declared.Destination.{Destination}
+use Rattle.lookup.specs.declared.Command.{Command}
+use Rattle.lookup.specs.declared.Found.{Found}
+use Rattle.lookup.specs.declared.Found.the-variants as found
+use Rattle.lookup.specs.declared.Bound.{Bound}
+use Rattle.lookup.specs.declared.Bound.the-variants as bound
+use Rattle.lookup.specs.Lookup.{isEntry, entry, precede, before}
+
+-- a record that is found is in the file, and it is what was looked for
+pub record Is (s : List ℕ) (kind part number k : ℕ) : Type 0 where
+  pub in-file : k < records s
+  pub kind-is : byteAt s k 0 ≡ kind
+  pub part-is : byteAt s k 1 ≡ part
+  pub number-is : byteAt s k 2 ≡ number
+
+pub entry-is : (s : List ℕ) (kind part number k : ℕ) → entry s kind part number ≡ At k → Is s kind part number k
+unfolding entry
+entry-is s kind part number k e =
+    let w = first-at (isEntry s kind part number) (records s) k e in
+    record {
+      in-file = w .0;
+      kind-is = eqb-true (byteAt s k 0) kind (every-at _ 0 (w .1));
+      part-is = eqb-true (byteAt s k 1) part (every-at _ 1 (w .1));
+      number-is = eqb-true (byteAt s k 2) number (every-at _ 2 (w .1));
+    }
+
+-- the same, as a call of `find` leaves it
+pub entry-in : (s : List ℕ) (kind part number k : ℕ) (f : Place) → f ≡ entry s kind part number → f ≡ At k → k < records s
+entry-in s kind part number k f e q = entry-is s kind part number k (sym e ∙ q) .in-file
+
+-- "Globals precede the bank": r is what the globals have, h what the bank has
+pub there : (r f g : Found) (d : Destination) → r ≡ f → r ≡ found.To d → found.To d ≡ precede f g
+there r f g d e q = rw (← e, q)
+
+pub elsewhere : (r f g h : Found) → r ≡ f → r ≡ found.Nothing → h ≡ g → h ≡ precede f g
+elsewhere r f g h e q p = rw (← e, q) p
+
+pub runs-there : (r f g : Bound) (c : Command) → r ≡ f → r ≡ bound.Run c → bound.Run c ≡ before f g
+runs-there r f g c e q = rw (← e, q)
+
+pub runs-elsewhere : (r f g h : Bound) → r ≡ f → r ≡ bound.Nothing → h ≡ g → h ≡ before f g
+runs-elsewhere r f g h e q p = rw (← e, q) p

@@ -1,0 +1,533 @@
+// Every lookup that the bridge makes in a profile. `specs/View.antt` offers them to the definition as one record.
+ghost use mathlib.Core.Path.{_≡_};
+ghost use mathlib.Core.Bool.{true};
+ghost use mathlib.Core.List.{_∷_, [], _++_};
+ghost use Prim.Native.Nat.{_+_, _<_, _≤_};
+ghost use lib.Dec.{eqb};
+ghost use lib.ListN.{length, getD};
+ghost use Rattle.profile.specs.Profile.{records, byteAt, halfAt, bankCount, verdict};
+ghost use Rattle.lookup.specs.Lookup.{positionsOf, rememberOf, isEntry, entry, ofPart, halfOf, byteOf, bankAt, nameOf, deviceOf, liveOf, recOf, selectOf, bankNamed, destAt, controlOf, faderOf, encoderOf, precede, sameDest, scenesOf, position, buttonOf, commandAt, entryAt, transportsOf, transportOf, before, ofKind, place, merged, seenEntries, seenDrivers, times, mostCommon};
+ghost use Rattle.base.specs.Keyed.{at};
+
+// The name number of what is not there.
+pub const ABSENT: u16 = 65535;
+
+// The bank number of what belongs to every bank.
+pub const GLOBALS: u8 = 255;
+
+pub struct Destination {
+    pub driver: u8,
+    pub target: u16,
+    pub label: u16,
+    pub group: u16,
+    pub mute: u16,
+    pub takeover: bool,
+    pub low: f64,
+    pub high: f64,
+}
+
+pub struct Command {
+    pub driver: u8,
+    pub target: u16,
+    pub command: u16,
+}
+
+pub enum Found {
+    To(Destination),
+    Nothing,
+}
+
+pub enum Bound {
+    Run(Command),
+    Nothing,
+}
+
+// A transport button and what it runs.
+pub struct Entry {
+    pub kind: u8,
+    pub command: Command,
+}
+
+pub struct Entries {
+    pub list: [Entry; 32],
+    pub count: usize,
+}
+
+// The drivers of some faders, in the faders' order.
+pub struct Drivers {
+    pub list: [u8; 16],
+    pub count: usize,
+}
+
+// ── settings ──
+
+// The byte at a place of the profile, 0 past its end.
+fn byte_or_zero(s: &[u8], at: usize) -> u8
+    ensures { λ r. ⌜ r ≡ getD (now (s .entry)) at 0 ⌝ }
+{
+    if s.len() <= at {
+        return 0;
+    }
+    s[at]
+}
+
+pub fn positions(profile: &[u8]) -> bool
+    ensures { λ r. ⌜ r ≡ positionsOf (now (profile .entry)) ⌝ }
+{
+    byte_or_zero(profile, 2) == 1
+}
+
+pub fn remember(profile: &[u8]) -> bool
+    ensures { λ r. ⌜ r ≡ rememberOf (now (profile .entry)) ⌝ }
+{
+    byte_or_zero(profile, 3) == 1
+}
+
+// ── records ──
+
+fn is_entry(s: &[u8], kind: u8, part: u8, number: u8, k: usize) -> bool
+    requires { ⌜ k < records (now s) ⌝ }
+    ensures { λ r. ⌜ r ≡ isEntry (now (s .entry)) kind part number k ⌝ }
+{
+    (profile::view::byte(s, k, 0) == kind)
+        & ((profile::view::byte(s, k, 1) == part) & (profile::view::byte(s, k, 2) == number))
+}
+
+// The first record of the kind, the part and the number.
+fn find(s: &[u8], kind: u8, part: u8, number: u8) -> base::Place
+    ensures { λ r. ⌜ r ≡ entry (now (s .entry)) kind part number ⌝ }
+{
+    let n = s.len() / 32;
+    let mut k = 0;
+    while k < n {
+        if is_entry(s, kind, part, number, k) {
+            return base::Place::At(k);
+        }
+        k += 1;
+    }
+    base::Place::Nothing
+}
+
+fn of_part(s: &[u8], kind: u8, part: u8, k: usize) -> bool
+    requires { ⌜ k < records (now s) ⌝ }
+    ensures { λ r. ⌜ r ≡ ofPart (now (s .entry)) kind part k ⌝ }
+{
+    (profile::view::byte(s, k, 0) == kind) & (profile::view::byte(s, k, 1) == part)
+}
+
+// Two bytes of the first record of the kind, the part and the number, 65535 if there is none.
+fn half_of(s: &[u8], kind: u8, part: u8, number: u8, o: usize) -> u16
+    requires { ⌜ o ≤ 30 ⌝ }
+    ensures { λ r. ⌜ r ≡ halfOf (now (s .entry)) o 65535 (entry (now (s .entry)) kind part number) ⌝ }
+{
+    match find(s, kind, part, number) {
+        base::Place::At(k) => profile::view::half(s, k, o),
+        base::Place::Nothing => ABSENT,
+    }
+}
+
+// A byte of the bank's record, 0 if there is none.
+fn bank_byte(s: &[u8], bank: u8, o: usize) -> u8
+    requires { ⌜ o < 32 ⌝ }
+    ensures { λ r. ⌜ r ≡ byteOf (now (s .entry)) o 0 (bankAt (now (s .entry)) bank) ⌝ }
+{
+    match find(s, 1, bank, 0) {
+        base::Place::At(k) => profile::view::byte(s, k, o),
+        base::Place::Nothing => 0,
+    }
+}
+
+// ── banks ──
+
+pub fn bank_count(profile: &[u8]) -> usize
+    ensures { λ r. ⌜ r ≡ bankCount (now (profile .entry)) ⌝ }
+{
+    profile::view::count_kind(profile, 1)
+}
+
+pub fn bank_name(profile: &[u8], bank: u8) -> u16
+    ensures { λ r. ⌜ r ≡ nameOf (now (profile .entry)) bank ⌝ }
+{
+    half_of(profile, 1, bank, 0, 4)
+}
+
+// The bank's own driver.
+pub fn device_of(profile: &[u8], bank: u8) -> u16
+    ensures { λ r. ⌜ r ≡ deviceOf (now (profile .entry)) bank ⌝ }
+{
+    half_of(profile, 1, bank, 0, 6)
+}
+
+pub fn live_of(profile: &[u8], bank: u8) -> u16
+    ensures { λ r. ⌜ r ≡ liveOf (now (profile .entry)) bank ⌝ }
+{
+    half_of(profile, 1, bank, 0, 8)
+}
+
+pub fn rec_action(profile: &[u8], bank: u8) -> u8
+    ensures { λ r. ⌜ r ≡ recOf (now (profile .entry)) bank ⌝ }
+{
+    bank_byte(profile, bank, 10)
+}
+
+pub fn select_is_bank(profile: &[u8], bank: u8) -> bool
+    ensures { λ r. ⌜ r ≡ selectOf (now (profile .entry)) bank ⌝ }
+{
+    bank_byte(profile, bank, 11) == 1
+}
+
+// ── faders and encoders ──
+
+fn destination_at(s: &[u8], k: usize) -> Destination
+    requires { ⌜ k < records (now s) ⌝ }
+    ensures { λ r. ⌜ r ≡ destAt (now (s .entry)) k ⌝ }
+{
+    let driver = profile::view::byte(s, k, 4);
+    let target = profile::view::half(s, k, 6);
+    let label = profile::view::half(s, k, 8);
+    let group = profile::view::half(s, k, 10);
+    let mute = profile::view::half(s, k, 12);
+    let takeover = profile::view::byte(s, k, 3) == 1;
+    let low = profile::view::double(s, k, 16);
+    let high = profile::view::double(s, k, 24);
+    Destination {
+        driver,
+        target,
+        label,
+        group,
+        mute,
+        takeover,
+        low,
+        high,
+    }
+}
+
+fn control_of(s: &[u8], kind: u8, part: u8, number: u8) -> Found
+    ensures { λ r. ⌜ r ≡ controlOf (now (s .entry)) kind part number ⌝ }
+{
+    match find(s, kind, part, number) {
+        base::Place::At(k) => Found::To(destination_at(s, k)),
+        base::Place::Nothing => Found::Nothing,
+    }
+}
+
+// A fader of one bank or of the globals.
+pub fn fader(profile: &[u8], bank: u8, number: u8) -> Found
+    ensures { λ r. ⌜ r ≡ faderOf (now (profile .entry)) bank number ⌝ }
+{
+    control_of(profile, 2, bank, number)
+}
+
+// An encoder of one bank or of the globals.
+pub fn encoder(profile: &[u8], bank: u8, number: u8) -> Found
+    ensures { λ r. ⌜ r ≡ encoderOf (now (profile .entry)) bank number ⌝ }
+{
+    control_of(profile, 3, bank, number)
+}
+
+// The globals' precedes the bank's.
+fn control_in_reach(s: &[u8], kind: u8, bank: u8, number: u8) -> Found
+    ensures { λ r. ⌜ r ≡ precede (controlOf (now (s .entry)) kind 255 number) (controlOf (now (s .entry)) kind bank number) ⌝ }
+{
+    match control_of(s, kind, GLOBALS, number) {
+        Found::To(d) => Found::To(d),
+        Found::Nothing => control_of(s, kind, bank, number),
+    }
+}
+
+// The globals' fader or else the bank's.
+pub fn fader_in_reach(profile: &[u8], bank: u8, number: u8) -> Found
+    ensures { λ r. ⌜ r ≡ precede (faderOf (now (profile .entry)) 255 number) (faderOf (now (profile .entry)) bank number) ⌝ }
+{
+    control_in_reach(profile, 2, bank, number)
+}
+
+// The globals' encoder or else the bank's.
+pub fn encoder_in_reach(profile: &[u8], bank: u8, number: u8) -> Found
+    ensures { λ r. ⌜ r ≡ precede (encoderOf (now (profile .entry)) 255 number) (encoderOf (now (profile .entry)) bank number) ⌝ }
+{
+    control_in_reach(profile, 3, bank, number)
+}
+
+// Rust's == on every field: -0.0 equals 0.0.
+pub fn same(a: Destination, b: Destination) -> bool
+    ensures { λ r. ⌜ r ≡ sameDest a b ⌝ }
+{
+    (a.driver == b.driver)
+        & ((a.target == b.target)
+            & ((a.label == b.label)
+                & ((a.group == b.group)
+                    & ((a.mute == b.mute)
+                        & ((a.takeover == b.takeover)
+                            & float::same_range(a.low, a.high, b.low, b.high))))))
+}
+
+// ── scenes ──
+
+pub fn scene_count(profile: &[u8], bank: u8) -> usize
+    ensures { λ r. ⌜ r ≡ length (scenesOf (now (profile .entry)) bank) ⌝ }
+{
+    let n = profile.len() / 32;
+    let mut m: usize = 0;
+    let mut k = 0;
+    while k < n {
+        m += profile::view::one(of_part(profile, 4, bank, k));
+        k += 1;
+    }
+    m
+}
+
+// The name of the bank's n-th scene, from 0.
+pub fn scene_name(profile: &[u8], bank: u8, n: usize) -> u16
+    ensures { λ r. ⌜ r ≡ getD (scenesOf (now (profile .entry)) bank) n 65535 ⌝ }
+{
+    let end = profile.len() / 32;
+    let mut m: usize = 0;
+    let mut k = 0;
+    while k < end {
+        let i = k;
+        k += 1;
+        if of_part(profile, 4, bank, i) {
+            if m == n {
+                return profile::view::half(profile, i, 4);
+            }
+            m += 1;
+        }
+    }
+    ABSENT
+}
+
+// The first position of a name in the bank's list of scenes.
+pub fn scene_position(profile: &[u8], bank: u8, name: u16) -> base::Place
+    ensures { λ r. ⌜ r ≡ position name (scenesOf (now (profile .entry)) bank) ⌝ }
+{
+    let end = profile.len() / 32;
+    let mut m: usize = 0;
+    let mut k = 0;
+    while k < end {
+        let i = k;
+        k += 1;
+        if of_part(profile, 4, bank, i) {
+            if profile::view::half(profile, i, 4) == name {
+                return base::Place::At(m);
+            }
+            m += 1;
+        }
+    }
+    base::Place::Nothing
+}
+
+// ── default buttons ──
+
+// The command of a driver's first default button of the kind.
+pub fn default_command(profile: &[u8], driver: u8, kind: u8) -> u16
+    ensures { λ r. ⌜ r ≡ buttonOf (now (profile .entry)) driver kind ⌝ }
+{
+    half_of(profile, 6, driver, kind, 4)
+}
+
+// ── the names of banks ──
+
+// The first bank of the name.
+pub fn bank_named(profile: &[u8], name: u16) -> base::Place
+    requires { ⌜ verdict (now profile) ≡ 0 ⌝ }
+    ensures { λ r. ⌜ r ≡ bankNamed (now (profile .entry)) name ⌝ }
+{
+    let n = bank_count(profile);
+    let mut b: usize = 0;
+    while b < n {
+        if bank_name(profile, b as u8) == name {
+            return base::Place::At(b);
+        }
+        b += 1;
+    }
+    base::Place::Nothing
+}
+
+// ── transport ──
+
+fn command_at(s: &[u8], k: usize) -> Command
+    requires { ⌜ k < records (now s) ⌝ }
+    ensures { λ r. ⌜ r ≡ commandAt (now (s .entry)) k ⌝ }
+{
+    let driver = profile::view::byte(s, k, 4);
+    let target = profile::view::half(s, k, 6);
+    let command = profile::view::half(s, k, 8);
+    Command {
+        driver,
+        target,
+        command,
+    }
+}
+
+fn entry_at(s: &[u8], k: usize) -> Entry
+    requires { ⌜ k < records (now s) ⌝ }
+    ensures { λ r. ⌜ r ≡ entryAt (now (s .entry)) k ⌝ }
+{
+    let kind = profile::view::byte(s, k, 2);
+    let command = command_at(s, k);
+    Entry { kind, command }
+}
+
+// The first of its kind in one bank or in the globals.
+pub fn transport(profile: &[u8], bank: u8, kind: u8) -> Bound
+    ensures { λ r. ⌜ r ≡ transportOf kind (transportsOf (now (profile .entry)) bank) ⌝ }
+{
+    match find(profile, 5, bank, kind) {
+        base::Place::At(k) => Bound::Run(command_at(profile, k)),
+        base::Place::Nothing => Bound::Nothing,
+    }
+}
+
+// The globals' transport or else the bank's.
+pub fn transport_in_reach(profile: &[u8], bank: u8, kind: u8) -> Bound
+    ensures { λ r. ⌜ r ≡ before (transportOf kind (transportsOf (now (profile .entry)) 255)) (transportOf kind (transportsOf (now (profile .entry)) bank)) ⌝ }
+{
+    match transport(profile, GLOBALS, kind) {
+        Bound::Run(c) => Bound::Run(c),
+        Bound::Nothing => transport(profile, bank, kind),
+    }
+}
+
+fn no_entries() -> Entries
+    ensures { λ r. ⌜ (r .count ≡ 0) × (seenEntries r ≡ []) ⌝ }
+{
+    let command = Command {
+        driver: 0,
+        target: 0,
+        command: 0,
+    };
+    let none = Entry { kind: 0, command };
+    Entries {
+        list: [none; 32],
+        count: 0,
+    }
+}
+
+// One more, behind those that are there.
+fn push(entries: Entries, e: Entry) -> Entries
+    requires { ⌜ entries .count < 32 ⌝ }
+    ensures { λ r. ⌜ (r .count ≡ entries .count + 1) × (seenEntries r ≡ seenEntries entries ++ (e ∷ [])) ⌝ }
+{
+    let mut t = entries;
+    let n = entries.count;
+    t.list[n] = e;
+    t.count = n + 1;
+    t
+}
+
+// The place of the first of the kind, the count if there is none.
+fn find_kind(entries: Entries, kind: u8) -> usize
+    requires { ⌜ entries .count ≤ 32 ⌝ }
+    ensures { λ r. ⌜ r ≡ at (ofKind kind) (seenEntries entries) ⌝ }
+{
+    let n = entries.count;
+    let mut i: usize = 0;
+    while i < n {
+        let e = entries.list[i];
+        if e.kind == kind {
+            return i;
+        }
+        i += 1;
+    }
+    i
+}
+
+// It replaces the first of its kind, or comes behind.
+fn put(entries: Entries, e: Entry) -> Entries
+    requires { ⌜ entries .count < 32 ⌝ }
+    ensures { λ r. ⌜ (r .count ≤ entries .count + 1) × (seenEntries r ≡ place e (seenEntries entries)) ⌝ }
+{
+    let i = find_kind(entries, e.kind);
+    let mut t = entries;
+    let n = entries.count;
+    if i < n {
+        t.list[i] = e;
+        return t;
+    }
+    t.list[n] = e;
+    t.count = n + 1;
+    t
+}
+
+// The transport buttons of one bank or of the globals, in file order.
+fn own_transports(profile: &[u8], bank: u8) -> Entries
+    requires { ⌜ verdict (now profile) ≡ 0 ⌝ }
+    ensures { λ r. ⌜ (r .count ≤ 16) × (seenEntries r ≡ transportsOf (now (profile .entry)) bank) ⌝ }
+{
+    let end = profile.len() / 32;
+    let mut entries = no_entries();
+    let mut k = 0;
+    while k < end {
+        let i = k;
+        k += 1;
+        if of_part(profile, 5, bank, i) {
+            entries = push(entries, entry_at(profile, i));
+        }
+    }
+    entries
+}
+
+// The list of lamps: the bank's entries in file order, each global entry in the place of the first of its kind, or behind.
+pub fn transports(profile: &[u8], bank: u8) -> Entries
+    requires { ⌜ verdict (now profile) ≡ 0 ⌝ }
+    ensures { λ r. ⌜ (r .count ≤ 32) × (seenEntries r ≡ merged (transportsOf (now (profile .entry)) 255) (transportsOf (now (profile .entry)) bank)) ⌝ }
+{
+    let end = profile.len() / 32;
+    let mut entries = own_transports(profile, bank);
+    let mut k = 0;
+    while k < end {
+        let i = k;
+        k += 1;
+        if of_part(profile, 5, GLOBALS, i) {
+            entries = put(entries, entry_at(profile, i));
+        }
+    }
+    entries
+}
+
+// ── the driver that most faders have ──
+
+fn times_in(drivers: Drivers, x: u8) -> usize
+    requires { ⌜ drivers .count ≤ 16 ⌝ }
+    ensures { λ r. ⌜ r ≡ times x (seenDrivers drivers) ⌝ }
+{
+    let n = drivers.count;
+    let mut m: usize = 0;
+    let mut i: usize = 0;
+    while i < n {
+        m += profile::view::one(drivers.list[i] == x);
+        i += 1;
+    }
+    m
+}
+
+fn wide(driver: u8) -> u16
+    ensures { λ r. ⌜ r ≡ driver ⌝ }
+{
+    driver as u16
+}
+
+// The first of the most frequent.
+pub fn most_common(drivers: Drivers) -> u16
+    requires { ⌜ drivers .count ≤ 16 ⌝ }
+    ensures { λ r. ⌜ r ≡ mostCommon (seenDrivers drivers) ⌝ }
+{
+    let n = drivers.count;
+    if n == 0 {
+        return ABSENT;
+    }
+    let mut best = drivers.list[0];
+    let mut often = times_in(drivers, best);
+    let mut i: usize = 1;
+    while i < n {
+        let x = drivers.list[i];
+        let m = times_in(drivers, x);
+        i += 1;
+        if often < m {
+            best = x;
+            often = m;
+        }
+    }
+    wide(best)
+}

@@ -10,3 +10,4 @@ pub mod Pigeon
 pub mod Words
 pub mod WordsLaws
 pub mod Tail
+pub mod Same

@@ -1,0 +1,11 @@
+pub mod Grown
+pub mod Frame
+pub mod Presses
+pub mod Bridge
+pub mod FloatEq
+pub mod Counts
+pub mod Theorem
+pub mod Teeth
+pub mod Starred
+pub mod Books
+pub mod Words

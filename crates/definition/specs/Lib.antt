@@ -1,0 +1,11 @@
+pub mod Rig
+pub mod Levels
+pub mod Lamps
+pub mod Flash
+pub mod Faders
+pub mod Live
+pub mod Banks
+pub mod Scenes
+pub mod Muting
+pub mod Buttons
+pub mod Step

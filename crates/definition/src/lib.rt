@@ -1,0 +1,1 @@
+// The definition of an event is in specs/; there is no function here.

@@ -1,0 +1,21 @@
+use Rattle.drivers.proofs.Laws.{plain-low}
+use Rattle.drivers.specs.Talk.{toggleOf, next}
+use borrow.Author.Needs.{needs}
+use Rattle.drivers.proofs.line.toggle.Statement.{statement}
+use Rattle.drivers.proofs.line.toggle.Tie as tie
+
+plain-requires : tie.Need-plain-requires
+plain-requires c κs = search needs
+
+done-requires : tie.Need-done-requires
+done-requires c κs = plain-low _ _ _ _ _ (c .before .before .plain .ensures) (c .before .before .before .before .pre)
+
+returns : tie.Need-returns
+unfolding toggleOf next
+returns c = rw (
+  ← c .before .before .before .plain .ensures,
+  ← c .done .ensures,
+)
+
+pub toggle-spec : {M : Type 1} → statement M
+toggle-spec = tie.close (tie.spec plain-requires done-requires returns)

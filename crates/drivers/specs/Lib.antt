@@ -1,0 +1,5 @@
+pub mod Answers
+pub mod Talk
+pub mod Shown
+pub mod Bytes
+pub mod Paired

@@ -1,0 +1,248 @@
+-- Laws of the session: no channel, target or destination waits twice, whatever is done to its list, and a line of channels below 16 has a place for
+-- every channel. A driver's list without a number twice has at most eight faders on the surface. Assumes nothing.
+use Prim.Native.Nat.{ℕ, _-_, _≤_, _<_}
+use mathlib.Core.Path.{_≡_, refl, _∙_}
+use mathlib.Core.Bool.{Bool, true, false, _&&_}
+use mathlib.Core.List.{List, [], _∷_, map}
+use native.Mathlib.Omega.{arith}
+use lib.Dec.{eqb, leb, ltb}
+use lib.ListN.{length, length-map}
+use lib.Seq.{take-all}
+use lib.IntN.{ℤ}
+use lib.Ieee.{Float, nan}
+use borrow.Author.Tests.{lt-ltb, leb-true, ne-eqb, eqb-false}
+use Rattle.base.specs.Choice.{pick}
+use Rattle.base.specs.Keyed.{anyOf, allOf, change, keep, noTwice}
+use Rattle.base.specs.RangeLaws.{and-left, and-right}
+use Rattle.base.specs.Pigeon.{pigeon, has-room-for, every-change, once-change, left-of, right-of, first-no, rest-no, no-left, no-right}
+use Rattle.lookup.specs.Lookup.{sameDest}
+use Rattle.lookup.specs.declared.Destination.{Destination}
+use Rattle.session.specs.Session.{moveOf, placeMove, hasPlace, isDest, addTo, firstTurn, turn, Hushed, hushedAt, hush, otherTarget, unhush, onSurface, stripOf, stripsOf}
+use Rattle.drivers.specs.declared.LiveFader.{LiveFader}
+use Rattle.session.specs.declared.Move.{Move}
+use Rattle.session.specs.declared.Turn.{Turn}
+use Rattle.session.specs.declared.Strip.{Strip}
+
+-- ── any list ──
+
+-- keys below `top`, none twice: whichever of them is not there has room
+key-room : {A : Type 0} (key : A → ℕ) (top : ℕ) (l : List A) (x : A) →
+    allOf (λ y. ltb (key y) top) l ≡ true → noTwice (λ y z. eqb (key y) (key z)) l ≡ true → key x < top →
+    pick (anyOf (λ y. eqb (key y) (key x)) l) true (ltb (length l) top) ≡ true
+key-room key top l x low once h = go (anyOf (λ y. eqb (key y) (key x)) l) refl
+  where
+    go : (b : Bool) → anyOf (λ y. eqb (key y) (key x)) l ≡ b → pick b true (ltb (length l) top) ≡ true
+    go true e = refl
+    go false e = lt-ltb (length l) top (has-room-for key top l x low once h e)
+
+module _ {A : Type 0} (same : A → A → Bool) where
+  any-keep : (f g : A → Bool) (l : List A) → anyOf g l ≡ false → anyOf g (keep f l) ≡ false
+  unfolding anyOf keep
+  any-keep f g [] e = refl
+  any-keep f g (x ∷ l) e = go (f x) (first-no (g x) (anyOf g l) e) (any-keep f g l (rest-no (g x) (anyOf g l) e))
+    where
+      go : (b : Bool) → g x ≡ false → anyOf g (keep f l) ≡ false → anyOf g (pick b (x ∷ keep f l) (keep f l)) ≡ false
+      go true h k = rw (h, k)
+      go false h k = k
+
+  -- of a list with none twice, those that are kept have none twice
+  once-keep : (f : A → Bool) (l : List A) → noTwice same l ≡ true → noTwice same (keep f l) ≡ true
+  unfolding noTwice keep
+  once-keep f [] e = refl
+  once-keep f (x ∷ l) e =
+      go (f x) (any-keep f (same x) l (no-left (anyOf (same x) l) (noTwice same l) e)) (once-keep f l (no-right (anyOf (same x) l) (noTwice same l) e))
+    where
+      go : (b : Bool) → anyOf (same x) (keep f l) ≡ false → noTwice same (keep f l) ≡ true → noTwice same (pick b (x ∷ keep f l) (keep f l)) ≡ true
+      go true a k = rw (a, k)
+      go false a k = k
+
+-- a change that leaves what is the same as what, where the new one is the same as just those that pass
+module _ {A : Type 0} (same : A → A → Bool) (is : A → Bool) (g : A → A) (y : A) (new : (x : A) → same x y ≡ is x)
+    (to : (x z : A) → same x (g z) ≡ same x z) (from : (x z : A) → same (g x) z ≡ same x z) where
+  any-from : (x : A) (l : List A) → anyOf (same x) l ≡ false → anyOf (same (g x)) l ≡ false
+  unfolding anyOf
+  any-from x [] e = refl
+  any-from x (z ∷ l) e =
+      rw (from x z, first-no (same x z) (anyOf (same x) l) e) (any-from x l (rest-no (same x z) (anyOf (same x) l) e))
+
+  any-change : (x : A) (l : List A) → is x ≡ false → anyOf (same x) l ≡ false → anyOf (same x) (change is g y l) ≡ false
+  unfolding anyOf change
+  any-change x [] h e = rw (new x, h)
+  any-change x (z ∷ l) h e =
+      go (is z) (first-no (same x z) (anyOf (same x) l) e) (rest-no (same x z) (anyOf (same x) l) e)
+      (any-change x l h (rest-no (same x z) (anyOf (same x) l) e))
+    where
+      go : (b : Bool) → same x z ≡ false → anyOf (same x) l ≡ false → anyOf (same x) (change is g y l) ≡ false →
+          anyOf (same x) (pick b (g z ∷ l) (z ∷ change is g y l)) ≡ false
+      go true p q r = rw (to x z, p, q)
+      go false p q r = rw (p, r)
+
+  same-change : (l : List A) → noTwice same l ≡ true → noTwice same (change is g y l) ≡ true
+  unfolding noTwice change anyOf
+  same-change [] e = refl
+  same-change (x ∷ l) e =
+      go (is x) refl (no-left (anyOf (same x) l) (noTwice same l) e) (no-right (anyOf (same x) l) (noTwice same l) e)
+      (same-change l (no-right (anyOf (same x) l) (noTwice same l) e))
+    where
+      go : (b : Bool) → is x ≡ b → anyOf (same x) l ≡ false → noTwice same l ≡ true → noTwice same (change is g y l) ≡ true →
+          noTwice same (pick b (g x ∷ l) (x ∷ change is g y l)) ≡ true
+      go true q a n r = rw (any-from x l a, n)
+      go false q a n r = rw (any-change x l q a, r)
+
+-- what is kept passes
+all-keep : {A : Type 0} (f : A → Bool) (l : List A) → allOf f (keep f l) ≡ true
+unfolding allOf keep
+all-keep f [] = refl
+all-keep f (x ∷ l) = go (f x) refl (all-keep f l)
+  where
+    go : (b : Bool) → f x ≡ b → allOf f (keep f l) ≡ true → allOf f (pick b (x ∷ keep f l) (keep f l)) ≡ true
+    go true q k = rw (q, k)
+    go false q k = k
+
+-- each made into another
+module _ {A B : Type 0} (h : A → B) where
+  all-map : (f : A → Bool) (g : B → Bool) → ((x : A) → f x ≡ true → g (h x) ≡ true) →
+      (l : List A) → allOf f l ≡ true → allOf g (map h l) ≡ true
+  unfolding allOf
+  all-map f g r [] e = refl
+  all-map f g r (x ∷ l) e = rw (r x (left-of (f x) (allOf f l) e)) (all-map f g r l (right-of (f x) (allOf f l) e))
+
+  any-map : (f : A → Bool) (g : B → Bool) → ((x : A) → g (h x) ≡ f x) → (l : List A) → anyOf g (map h l) ≡ anyOf f l
+  unfolding anyOf
+  any-map f g r [] = refl
+  any-map f g r (x ∷ l) = rw (r x, any-map f g r l)
+
+  once-map : (s : A → A → Bool) (t : B → B → Bool) → ((x y : A) → t (h x) (h y) ≡ s x y) → (l : List A) → noTwice t (map h l) ≡ noTwice s l
+  unfolding noTwice
+  once-map s t r [] = refl
+  once-map s t r (x ∷ l) = rw (any-map (s x) (t (h x)) (r x) l, once-map s t r l)
+
+-- ── the line ──
+
+abbrev pub lowChannel : Move → Bool
+lowChannel m = ltb (m .channel) 16
+
+abbrev pub sameChannel : Move → Move → Bool
+sameChannel a b = eqb (a .channel) (b .channel)
+
+-- channels at most 15, none twice
+pub record WellLine (l : List Move) : Type 0 where
+  pub low : allOf lowChannel l ≡ true
+  pub once : noTwice sameChannel l ≡ true
+
+pub line-empty : WellLine []
+unfolding allOf noTwice
+line-empty = record { low = refl; once = refl }
+
+pub line-fits : (l : List Move) → WellLine l → length l ≤ 16
+line-fits l w = pigeon (λ m. m .channel) 16 l (w .low) (w .once)
+
+-- there is a place for every channel
+pub line-room : (l : List Move) (ch : ℕ) → WellLine l → ch < 16 → hasPlace ch l ≡ true
+unfolding hasPlace
+line-room l ch w h = key-room (λ m. m .channel) 16 l (moveOf ch nan) (w .low) (w .once) h
+
+-- and a move that takes it leaves the line so
+pub line-place : (l : List Move) (ch : ℕ) (v : Float) → WellLine l → ch < 16 → WellLine (placeMove ch v l)
+unfolding placeMove
+line-place l ch v w h =
+    record {
+      low = every-change (λ m. m .channel) ch (λ m. moveOf ch v) (moveOf ch v) (λ m. refl) refl 16 l h (w .low);
+      once = once-change (λ m. m .channel) ch (λ m. moveOf ch v) (moveOf ch v) (λ m. refl) refl l (w .once);
+    }
+
+-- ── silenced levels ──
+
+abbrev pub sameHushed : Hushed → Hushed → Bool
+sameHushed a b = eqb (a .target) (b .target)
+
+pub hush-once : (l : List Hushed) (target : ℕ) (v : Float) → noTwice sameHushed l ≡ true → noTwice sameHushed (hush target v l) ≡ true
+unfolding hush
+hush-once l target v e = once-change (λ h. h .target) target (λ h. hushedAt target v) (hushedAt target v) (λ h. refl) refl l e
+
+pub unhush-once : (l : List Hushed) (target : ℕ) → noTwice sameHushed l ≡ true → noTwice sameHushed (unhush target l) ≡ true
+unfolding unhush
+unhush-once l target e = once-keep sameHushed (otherTarget target) l e
+
+-- ── the encoders' sums ──
+
+abbrev pub sameTurn : Turn → Turn → Bool
+sameTurn a b = sameDest (a .dest) (b .dest)
+
+pub turn-once : (l : List Turn) (d : Destination) (n : ℤ) → noTwice sameTurn l ≡ true → noTwice sameTurn (turn d n l) ≡ true
+unfolding turn
+turn-once l d n e = same-change sameTurn (isDest d) (addTo n) (firstTurn d n) (λ x. refl) (λ x z. refl) (λ x z. refl) l e
+
+-- ── live lists ──
+
+abbrev pub sameNumber : LiveFader → LiveFader → Bool
+sameNumber a b = eqb (a .number) (b .number)
+
+-- numbers 1 to 8, counted from 0
+abbrev place : LiveFader → ℕ
+place f = f .number - 1
+
+places-low : (l : List LiveFader) → allOf onSurface l ≡ true → allOf (λ f. ltb (place f) 8) l ≡ true
+unfolding allOf
+places-low [] e = refl
+places-low (f ∷ l) e =
+    let a : f .number ≤ 8 = leb-true _ _ (and-right (leb 1 (f .number)) (leb (f .number) 8) (left-of (onSurface f) (allOf onSurface l) e)) in
+    rw (lt-ltb (place f) 8 (omega arith)) (places-low l (right-of (onSurface f) (allOf onSurface l) e))
+
+place-free : (f : LiveFader) (l : List LiveFader) → 1 ≤ f .number → allOf onSurface l ≡ true → anyOf (sameNumber f) l ≡ false →
+    anyOf (λ g. eqb (place f) (place g)) l ≡ false
+unfolding allOf anyOf
+place-free f [] h e a = refl
+place-free f (g ∷ l) h e a =
+    let k : 1 ≤ g .number = leb-true _ _ (and-left (leb 1 (g .number)) (leb (g .number) 8) (left-of (onSurface g) (allOf onSurface l) e)) in
+    let d : f .number ≡ g .number → ⊥ = eqb-false _ _ (first-no (sameNumber f g) (anyOf (sameNumber f) l) a) in
+    rw (ne-eqb (place f) (place g) (λ q. d (omega arith)))
+    (place-free f l h (right-of (onSurface g) (allOf onSurface l) e) (rest-no (sameNumber f g) (anyOf (sameNumber f) l) a))
+
+places-once : (l : List LiveFader) → allOf onSurface l ≡ true → noTwice sameNumber l ≡ true → noTwice (λ f g. eqb (place f) (place g)) l ≡ true
+unfolding allOf noTwice
+places-once [] e o = refl
+places-once (f ∷ l) e o =
+    let h : 1 ≤ f .number = leb-true _ _ (and-left (leb 1 (f .number)) (leb (f .number) 8) (left-of (onSurface f) (allOf onSurface l) e)) in
+    let k : allOf onSurface l ≡ true = right-of (onSurface f) (allOf onSurface l) e in
+    rw (place-free f l h k (no-left (anyOf (sameNumber f) l) (noTwice sameNumber l) o))
+    (places-once l k (no-right (anyOf (sameNumber f) l) (noTwice sameNumber l) o))
+
+-- a list without a number twice has at most eight faders on the surface, so that each of them is a strip
+pub all-strips : (driver : ℕ) (l : List LiveFader) → noTwice sameNumber l ≡ true → stripsOf driver l ≡ map (stripOf driver) (keep onSurface l)
+unfolding stripsOf
+all-strips driver l o =
+    let k : List LiveFader = keep onSurface l in
+    let a : allOf onSurface k ≡ true = all-keep onSurface l in
+    let n : length k ≤ 8 = pigeon place 8 k (places-low k a) (places-once k a (once-keep sameNumber onSurface l o)) in
+    take-all 8 (map (stripOf driver) k) (omega (arith, length-map k (stripOf driver)))
+
+abbrev pub lowNumber : Strip → Bool
+lowNumber s = leb 1 (s .number) && leb (s .number) 8
+
+abbrev pub lowDriver : Strip → Bool
+lowDriver s = ltb (s .driver) 16
+
+abbrev pub sameNumbered : Strip → Strip → Bool
+sameNumbered a b = eqb (a .number) (b .number)
+
+-- numbers 1 to 8, none twice, drivers at most 15
+pub record WellStrips (l : List Strip) : Type 0 where
+  pub low : allOf lowNumber l ≡ true
+  pub drivers : allOf lowDriver l ≡ true
+  pub once : noTwice sameNumbered l ≡ true
+
+pub strips-empty : WellStrips []
+unfolding allOf noTwice
+strips-empty = record { low = refl; drivers = refl; once = refl }
+
+pub strips-well : (driver : ℕ) (l : List LiveFader) → driver < 16 → noTwice sameNumber l ≡ true → WellStrips (stripsOf driver l)
+unfolding stripOf
+strips-well driver l h o =
+    let k : List LiveFader = keep onSurface l in
+    rw (all-strips driver l o)
+    record {
+      low = all-map (stripOf driver) onSurface lowNumber (λ f e. e) k (all-keep onSurface l);
+      drivers = all-map (stripOf driver) onSurface lowDriver (λ f e. lt-ltb driver 16 h) k (all-keep onSurface l);
+      once = once-map (stripOf driver) sameNumber sameNumbered (λ f g. refl) k ∙ once-keep sameNumber onSurface l o;
+    }

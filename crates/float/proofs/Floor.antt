@@ -1,15 +1,14 @@
 -- `floor` and `max(0.0)` before Rust's `as u32` change nothing: the cast cuts to a whole number and takes what is below zero, and a NaN, to 0. Assumes nothing.
-use Prim.Native.Nat.{ℕ, zero, suc, _+_, _-_, _*_, _/_, _%_, _^_, _≤_, _<_, min}
-use native.Mathlib.Nat.{div-le-self, div-one, mul-one, zero-mul, zero-div, le-trans}
+use Prim.Native.Nat.{ℕ, zero, suc, _*_, _/_, _%_, _^_, _≤_, _<_}
+use native.Mathlib.Nat.{div-le-self, div-one, mul-one, zero-mul, zero-div}
 use native.Mathlib.Omega.{arith}
-use mathlib.Core.Path.{_≡_, refl, sym, ap, _∙_, subst}
+use mathlib.Core.Path.{_≡_, refl, _∙_}
 use mathlib.Core.Bool.{Bool, true, false, cond, _&&_}
 use lib.IntN.{ℤ, pos, negsuc}
 use lib.Dec.{T, eqb, ltb, leb, ltb→lt}
 use lib.Pow.{pow-pos}
 use lib.Ieee.{Float, nan, inf, fin, up, down, binary64, lt, fits, ofBits, toUnsigned, round}
-use lib.Ieee.Fits.{and-l, and-r, down-pos, up-pos}
-use lib.Ieee.Exact.{HasValue}
+use lib.Ieee.Fits.{and-l, and-r, up-pos}
 use lib.Ieee.Back.{round-whole}
 use borrow.Author.Tests.{ltb-false}
 use Rattle.float.specs.Leaf.{floorOf, atLeast0, f0}

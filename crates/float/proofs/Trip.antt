@@ -1,18 +1,16 @@
 -- Every raw position, decoded and sent, comes back. Rounding changes a fraction in the normal range by less than one part in 2 ^ 20, and two such steps move a number up to 16383 by far less than a half. Assumes nothing.
 use Prim.Native.Nat.{ℕ, zero, suc, _+_, _-_, _*_, _/_, _%_, _^_, _≤_, _<_, min, compare, Ordering, Ordering·lt, Ordering·eq, Ordering·gt}
-use native.Mathlib.Nat.{le-trans, le-of-eq, le-of-lt, le-refl, lt-of-lt-of-le, lt-of-le-of-lt, suc-mul, add-mul, mul-assoc, mul-comm, mul-left-comm, mul-right-comm, mul-one, one-mul, mul-pos, mul-le-mul-right, le-of-mul-le-mul-right, le-div-iff-mul-le, div-eq-of-lt-le, div-add-mod', mod-lt, zero-lt-suc, min-eq-left}
+use native.Mathlib.Nat.{le-trans, le-of-eq, le-of-lt, lt-of-lt-of-le, lt-of-le-of-lt, suc-mul, add-mul, mul-assoc, mul-comm, mul-left-comm, mul-right-comm, mul-one, one-mul, mul-pos, mul-le-mul-right, le-of-mul-le-mul-right, le-div-iff-mul-le, div-eq-of-lt-le, div-add-mod', mod-lt, zero-lt-suc, min-eq-left}
 use native.Mathlib.Omega.{arith}
 use mathlib.Core.Path.{_≡_, refl, sym, ap, _∙_, subst}
-use mathlib.Core.Bool.{Bool, true, false, not, true≢false}
-use lib.IntN.{pos}
-use lib.Dec.{T, isLe, isEq, leb→le, nleb→lt, eqb→eq, ltb→lt, lit≤, lit<}
-use lib.Pow.{pow-add, pow-pos, pow-mono}
-use lib.Ieee.{Float, nan, inf, fin, Format, binary64, up, down, prec, low, size, nearest, mul, div, ofInt, ofBits, round}
+use mathlib.Core.Bool.{true, false, not, true≢false}
+use lib.Dec.{T, isLe, isEq, leb→le, nleb→lt, eqb→eq, lit≤, lit<}
+use lib.Pow.{pow-add, pow-pos}
+use lib.Ieee.{Float, nan, inf, fin, binary64, up, down, size, nearest, mul, div, ofInt, ofBits, round}
 use lib.Ieee.Digits.{size-reaches}
 use lib.Ieee.Exact.{HasValue}
 use lib.Ieee.Nearest.{closest, nearest-ge}
 use lib.Ieee.Fits.{nearest-le, down-pos}
-use lib.Ieee.Order.{drop, kept}
 use lib.Ieee.Scale.{grid, overflow, round-val, round-same, normal-of-fraction}
 use lib.Ieee.Back.{round-whole}
 use Rattle.float.specs.Leaf.{faderMax, held, halvesUp, positionOf, valueOf}

@@ -1,15 +1,12 @@
 -- A message that is sent, decoded, is the button or the fader that it was sent for. Assumes nothing.
-use Prim.Native.Nat.{ℕ, _+_, _*_, _/_, _%_}
-use mathlib.Core.Path.{_≡_, refl, ap, _∙_}
+use Prim.Native.Nat.{ℕ, _+_, _/_, _%_}
+use mathlib.Core.Path.{_≡_, refl}
 use mathlib.Core.Bool.{true, false}
 use native.Mathlib.Omega.{arith}
-use native.Mathlib.Nat.{mod-lt}
 use borrow.Author.Tests.{eq-eqb}
-use Rattle.float.specs.Leaf.{valueOf}
 use Rattle.protocol.specs.Protocol.{decodeOf, bytesOf, heardOf, rawOf}
 use Rattle.protocol.specs.declared.Out.{Out}
 use Rattle.protocol.specs.declared.Out.the-variants.{Led, Position}
-use Rattle.protocol.specs.declared.Event.the-variants as event
 
 family : (c : ℕ) → (224 + c % 16) / 16 ≡ 14
 family c = omega arith

@@ -1,11 +1,11 @@
 -- What is known of a note that was looked up, and a message as three stores. Assumes nothing.
 use Prim.Native.Nat.{ℕ, zero, suc, _≤_, _<_}
-use mathlib.Core.Path.{_≡_, refl, sym, _∙_}
+use mathlib.Core.Path.{_≡_, refl}
 use mathlib.Core.Bool.{Bool, true, _&&_}
 use mathlib.Core.List.{List, [], _∷_}
 use native.Mathlib.Omega.{arith}
-use lib.Dec.{leb, ltb}
-use lib.ListN.{length, getD, set, drop}
+use lib.Dec.{leb}
+use lib.ListN.{length, getD, set}
 use borrow.Author.Tests.{leb-true}
 use Rattle.base.specs.RangeLaws.{and-left, and-right}
 use Rattle.base.specs.FirstLaws.{first-at}

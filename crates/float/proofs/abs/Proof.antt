@@ -2,14 +2,14 @@
 use Prim.Native.Nat.{ℕ, zero, suc, _+_, _*_, _<_}
 use native.Mathlib.Nat.{zero-mul, mul-pos, zero-lt-suc}
 use native.Mathlib.Omega.{arith}
-use mathlib.Core.Path.{_≡_, refl, sym, ap, _∙_, subst}
-use mathlib.Core.Bool.{Bool, true, false, not, _&&_, _||_, true≢false, false≢true}
-use lib.IntN.{ℤ, pos, negsuc}
-use lib.Dec.{T, eqb, ltb, ltb→lt, eqb→eq, eqb-refl, lt→ltb}
+use mathlib.Core.Path.{_≡_, refl, sym, _∙_, subst}
+use mathlib.Core.Bool.{Bool, true, false, _&&_, _||_, true≢false, false≢true}
+use lib.IntN.{ℤ, pos}
+use lib.Dec.{T, eqb, ltb, eqb→eq}
 use lib.Ieee.{Float, nan, inf, fin, binary64, up, down, lt, eq, neg, fits, ofBits}
-use lib.Ieee.Fits.{and-l, up-pos, down-pos}
+use lib.Ieee.Fits.{and-l, up-pos}
 use lib.Ieee.Back.{whole-unique}
-use borrow.Author.Tests.{ltb-true, ltb-false, lt-ltb, eq-eqb}
+use borrow.Author.Tests.{ltb-true, ltb-false}
 use Rattle.float.specs.Leaf.{absOf, f0}
 use Rattle.float.proofs.abs.Statement.{statement}
 use Rattle.float.proofs.abs.Tie as tie

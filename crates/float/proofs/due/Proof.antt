@@ -1,7 +1,7 @@
 -- `due` meets its contract: the cast alone does what `floor`, `max` and the cast do (`same-cast`). Assumes nothing.
 use Prim.Native.Nat.{ℕ, _+_, _%_, _^_, _≤_, _<_, min}
 use native.Mathlib.Nat.{min-eq-left, min-eq-right, le-of-lt}
-use mathlib.Core.Path.{_≡_, sym, ap, _∙_}
+use mathlib.Core.Path.{_≡_, sym, _∙_}
 use lib.Ieee.{Float, binary64, sub, div, toUnsigned}
 use lib.Ieee.Fits.{div-fits}
 use borrow.Author.Needs.{needs}

@@ -1,10 +1,9 @@
 -- `hold::is_finite`: x - x is a NaN at a NaN and at an infinity, and else a rounded fraction, which is none. A value equals itself unless it is a NaN. Assumes nothing.
 use Prim.Native.Nat.{ℕ, suc, _+_, _-_, _*_, _^_}
-use mathlib.Core.Path.{_≡_, refl, sym, ap, _∙_, subst}
-use mathlib.Core.Bool.{Bool, true, false, not, _&&_, _||_, cond, Bool·beq}
-use lib.IntN.{ℤ}
-use lib.Dec.{T, ltb, eqb, eqb-refl}
-use lib.Ieee.{Float, nan, inf, fin, Format, binary64, low, prec, emax, up, down, odd, units, round, sum, add, sub, neg, eq, isNan}
+use mathlib.Core.Path.{_≡_, refl}
+use mathlib.Core.Bool.{Bool, true, false, not, _&&_, cond, Bool·beq}
+use lib.Dec.{T, ltb}
+use lib.Ieee.{Float, nan, inf, fin, Format, binary64, low, prec, emax, up, down, odd, units, round, sum, sub, eq, isNan}
 use lib.Ieee.Exact.{HasValue, odd-sign}
 use lib.Ieee.Scale.{finite}
 use borrow.Author.Tests.{eq-eqb}

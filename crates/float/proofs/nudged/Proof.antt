@@ -1,6 +1,6 @@
 -- The cast reads the sum back from its bits, which is the sum (`toZ-ofZ`).
 use borrow.Author.Needs.{needs}
-use mathlib.Core.Path.{_≡_, ap, _∙_}
+use mathlib.Core.Path.{ap, _∙_}
 use mir.Syntax.{w32}
 use mir.ValLaws.{toZ-ofZ}
 use Rattle.float.specs.Leaf.{nudge}

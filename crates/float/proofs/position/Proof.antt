@@ -1,17 +1,17 @@
 -- `place::position` meets its contract. The product x is a value of the format, so it is what its bits b are read as, and each return is a case of `proofs/Held.antt`. Assumes nothing.
-use Prim.Native.Nat.{ℕ, _+_, _-_, _/_, _%_, _^_, _≤_, _<_, min}
+use Prim.Native.Nat.{ℕ, _+_, _-_, _/_, _%_, _^_}
 use native.Mathlib.Nat.{mod-lt, min-eq-left, min-eq-right, le-of-lt}
 use native.Mathlib.Omega.{arith}
-use mathlib.Core.Path.{_≡_, refl, sym, ap, _∙_, subst}
-use mathlib.Core.Bool.{Bool, true, false, not, true≢false}
+use mathlib.Core.Path.{_≡_, sym, ap, _∙_, subst}
+use mathlib.Core.Bool.{true, not}
 use lib.Dec.{T}
 use lib.Pow.{pow-pos, shr-le}
-use lib.Ieee.{Float, nan, inf, fin, binary64, mul, ne, isNan, ofBits, toBits}
+use lib.Ieee.{Float, binary64, mul, ne, isNan, ofBits, toBits}
 use lib.Ieee.Compare.{differs-from-itself}
 use lib.Ieee.Fits.{mul-fits}
 use lib.Ieee.Bits.{ofBits-toBits}
 use borrow.Author.Needs.{needs}
-use Rattle.float.specs.Leaf.{held, faderMax, positionOf, valueOf, ComesBack}
+use Rattle.float.specs.Leaf.{held, faderMax, positionOf, ComesBack}
 use Rattle.float.proofs.Trip.{comes-back}
 use Rattle.float.proofs.Bits.{no-nan}
 use Rattle.float.proofs.Held.{held-negative, held-low, held-mid, held-high}

@@ -3,18 +3,13 @@ use lib.ListN.{List·getD-eq-default}
 use borrow.Author.Needs.{needs}
 use Rattle.protocol.proofs.byte_of.Statement.{statement}
 use Rattle.protocol.proofs.byte_of.Tie as tie
-use Rattle.protocol.proofs.byte_of.Reads as reads
-use Rattle.protocol.proofs.byte_of.Lts as lts
 
--- src/lib.rt:190:24
 shared-slice-read-result : tie.Need-shared-slice-read-result
 shared-slice-read-result c = search needs
 
--- src/lib.rt:187:1
 returns : tie.Need-returns
 returns c = search needs
 
--- src/lib.rt:187:1
 returns-2 : tie.Need-returns-2
 returns-2 c = sym (List·getD-eq-default (c .before .args .msg .now) 0 (c .if1 .left))
 

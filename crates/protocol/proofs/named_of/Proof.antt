@@ -1,5 +1,5 @@
-use Prim.Native.Nat.{ℕ, _≤_, _-_}
-use mathlib.Core.Path.{_≡_, sym, _∙_}
+use Prim.Native.Nat.{_≤_, _-_}
+use mathlib.Core.Path.{_≡_}
 use native.Mathlib.Omega.{arith}
 use borrow.Author.Tests.{eq-eqb, ne-eqb}
 use Rattle.base.specs.declared.Place.the-variants.{Nothing}
@@ -9,9 +9,6 @@ use Rattle.protocol.specs.Protocol.{isNamed, namedOf}
 use borrow.Author.Needs.{needs}
 use Rattle.protocol.proofs.named_of.Statement.{statement}
 use Rattle.protocol.proofs.named_of.Tie as tie
-use Rattle.protocol.proofs.named_of.Reads as reads
-use Rattle.protocol.proofs.named_of.Lts as lts
-use Rattle.protocol.proofs.named_note.Reads as named-note-reads
 
 abbrev Inv-loop : tie.InvT-loop
 Inv-loop note k₀ k = (k ≤ 11) × (first k (isNamed note) ≡ Nothing)
@@ -19,32 +16,25 @@ Inv-loop note k₀ k = (k ≤ 11) × (first k (isNamed note) ≡ Nothing)
 abbrev μ-loop : tie.MeasureT-loop
 μ-loop note k₀ k = 11 - k
 
--- src/lib.rt:113:5
 loop-holds : tie.Need-loop-holds Inv-loop μ-loop
 loop-holds c = (search needs, first-none _)
 
--- src/lib.rt:114:12
 named-note-requires : tie.Need-named-note-requires Inv-loop μ-loop
 named-note-requires c κs = search needs
 
--- src/lib.rt:115:13
 returns : tie.Need-returns Inv-loop μ-loop
 unfolding namedOf
 returns c = first-hit _ _ _ (c .before .before .before .loop .inv .1) (rw (← c .before .named-note .ensures) (eq-eqb _ _ (c .if1 .taken))) (omega arith)
 
--- src/lib.rt:117:9
 add-k : tie.Need-add-k Inv-loop μ-loop
 add-k c = search needs
 
--- src/lib.rt:113:5
 loop-less : tie.Need-loop-less Inv-loop μ-loop
 loop-less c = search needs
 
--- src/lib.rt:113:5
 loop-again : tie.Need-loop-again Inv-loop μ-loop
 loop-again c = (search needs, first-more _ _ (c .before .before .before .loop .inv .1) (rw (← c .before .named-note .ensures) (ne-eqb _ _ (c .if1 .left))))
 
--- src/lib.rt:109:1
 returns-2 : tie.Need-returns-2 Inv-loop μ-loop
 unfolding namedOf
 returns-2 c = first-done _ _ _ (omega arith) (omega arith) (c .before .loop .inv .1)

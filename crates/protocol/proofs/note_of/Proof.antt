@@ -3,24 +3,17 @@ use borrow.Author.Tests.{lt-ltb, le-ltb}
 use borrow.Author.Needs.{needs}
 use Rattle.protocol.proofs.note_of.Statement.{statement}
 use Rattle.protocol.proofs.note_of.Tie as tie
-use Rattle.protocol.proofs.note_of.Reads as reads
-use Rattle.protocol.proofs.note_of.Lts as lts
-use Rattle.protocol.proofs.named_note.Reads as named-note-reads
 
--- src/lib.rt:153:9
 returns : tie.Need-returns
 unfolding noteOf
 returns c = rw (lt-ltb _ _ (c .if1 .taken))
 
--- src/lib.rt:156:17
 cast-k : tie.Need-cast-k
 cast-k c = search needs
 
--- src/lib.rt:157:26
 named-note-requires : tie.Need-named-note-requires
 named-note-requires c κs = search needs
 
--- src/lib.rt:157:9
 returns-2 : tie.Need-returns-2
 unfolding noteOf
 returns-2 c = rw (
@@ -29,7 +22,6 @@ returns-2 c = rw (
   ← c .named-note .ensures,
 )
 
--- src/lib.rt:149:1
 returns-3 : tie.Need-returns-3
 unfolding noteOf
 returns-3 c = rw (

@@ -4,43 +4,31 @@ use Rattle.protocol.proofs.Laws.{at-front}
 use borrow.Author.Needs.{needs}
 use Rattle.protocol.proofs.write_out.Statement.{statement}
 use Rattle.protocol.proofs.write_out.Tie as tie
-use Rattle.protocol.proofs.write_out.Reads as reads
-use Rattle.protocol.proofs.write_out.Lts as lts
-use Rattle.protocol.proofs.Out.bytes.Reads as bytes-reads
 
--- src/lib.rt:285:13
 bytes-requires : tie.Need-bytes-requires
 bytes-requires c κs = search needs
 
--- src/lib.rt:286:15
 array-read-part : tie.Need-array-read-part
 array-read-part c = search needs
 
--- src/lib.rt:286:5
 slice-write-part : tie.Need-slice-write-part
 slice-write-part c = search needs
 
--- src/lib.rt:287:15
 array-read-part-2 : tie.Need-array-read-part-2
 array-read-part-2 c = search needs
 
--- src/lib.rt:287:5
 slice-write-part-2 : tie.Need-slice-write-part-2
 slice-write-part-2 c = simp length-set (omega arith)
 
--- src/lib.rt:288:15
 array-read-part-3 : tie.Need-array-read-part-3
 array-read-part-3 c = search needs
 
--- src/lib.rt:288:5
 slice-write-part-3 : tie.Need-slice-write-part-3
 slice-write-part-3 c = search needs
 
--- src/lib.rt:281:1
 same-length : tie.Need-same-length
 same-length c = search needs
 
--- src/lib.rt:281:1
 returns : tie.Need-returns
 returns c = at-front _ _ _ (c .before .before .pre) (c .bytes .ensures .0)
 

@@ -3,10 +3,6 @@ use lib.ListN.{length}
 use borrow.Author.Needs.{needs}
 use Rattle.vectors.proofs.read_lines.Statement.{statement}
 use Rattle.vectors.proofs.read_lines.Tie as tie
-use Rattle.vectors.proofs.read_lines.Reads as reads
-use Rattle.vectors.proofs.read_lines.Lts as lts
-use Rattle.vectors.proofs.fresh.Reads as fresh-reads
-use Rattle.vectors.proofs.turn.Reads as turn-reads
 
 abbrev Inv-loop : tie.InvT-loop
 Inv-loop text line₀ i₀ line i = i ≤ length text
@@ -14,35 +10,27 @@ Inv-loop text line₀ i₀ line i = i ≤ length text
 abbrev μ-loop : tie.MeasureT-loop
 μ-loop text line₀ i₀ line i = length text - i
 
--- src/main.rt:186:9
 fresh-requires : tie.Need-fresh-requires Inv-loop μ-loop
 fresh-requires c κs = search needs
 
--- src/main.rt:188:5
 loop-holds : tie.Need-loop-holds Inv-loop μ-loop
 loop-holds c = search needs
 
--- src/main.rt:189:27
 shared-slice-read-turn : tie.Need-shared-slice-read-turn Inv-loop μ-loop
 shared-slice-read-turn c = search needs
 
--- src/main.rt:189:9
 turn-requires : tie.Need-turn-requires Inv-loop μ-loop
 turn-requires c κs = search needs
 
--- src/main.rt:190:9
 add-i : tie.Need-add-i Inv-loop μ-loop
 add-i c = search needs
 
--- src/main.rt:188:5
 loop-less : tie.Need-loop-less Inv-loop μ-loop
 loop-less c = search needs
 
--- src/main.rt:188:5
 loop-again : tie.Need-loop-again Inv-loop μ-loop
 loop-again c = search needs
 
--- src/main.rt:185:1
 returns : tie.Need-returns Inv-loop μ-loop
 returns c = search needs
 

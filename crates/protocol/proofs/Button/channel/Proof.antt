@@ -5,32 +5,22 @@ use Rattle.protocol.specs.Protocol.{channelOf}
 use borrow.Author.Needs.{needs}
 use Rattle.protocol.proofs.Button.channel.Statement.{statement}
 use Rattle.protocol.proofs.Button.channel.Tie as tie
-use Rattle.protocol.proofs.Button.channel.Reads as reads
-use Rattle.protocol.proofs.Button.channel.Lts as lts
-use Rattle.protocol.proofs.base_of.Reads as base-of-reads
-use Rattle.protocol.proofs.channel_base.Reads as channel-base-reads
 
--- src/lib.rt:128:15
 base-of-requires : tie.Need-base-of-requires
 base-of-requires c κs = search needs
 
--- src/lib.rt:129:23
 enum-known-k : tie.Need-enum-known-k
 enum-known-k c = search needs
 
--- src/lib.rt:129:46
 channel-base-requires : tie.Need-channel-base-requires
 channel-base-requires c κs = base-at _ _ (sym (c .before .before .before .base-of .ensures) ∙ c .before .k .given .1) .0
 
--- src/lib.rt:129:39
 sub-t7 : tie.Need-sub-t7
 sub-t7 c = omega (arith, base-at _ _ (sym (c .before .before .before .before .base-of .ensures) ∙ c .before .before .k .given .1) .1, c .channel-base .ensures)
 
--- src/lib.rt:130:31
 enum-told : tie.Need-enum-told
 enum-told c = search needs
 
--- src/lib.rt:124:5
 returns : tie.Need-returns
 unfolding channelOf
 returns c = rw (
@@ -39,7 +29,6 @@ returns c = rw (
   ← c .channel-base .ensures,
 )
 
--- src/lib.rt:124:5
 returns-2 : tie.Need-returns-2
 unfolding channelOf
 returns-2 c = rw (

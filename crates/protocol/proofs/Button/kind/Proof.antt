@@ -5,48 +5,34 @@ use Rattle.protocol.specs.Protocol.{kindOf}
 use borrow.Author.Needs.{needs}
 use Rattle.protocol.proofs.Button.kind.Statement.{statement}
 use Rattle.protocol.proofs.Button.kind.Tie as tie
-use Rattle.protocol.proofs.Button.kind.Reads as reads
-use Rattle.protocol.proofs.Button.kind.Lts as lts
-use Rattle.protocol.proofs.base_of.Reads as base-of-reads
-use Rattle.protocol.proofs.named_of.Reads as named-of-reads
 
--- src/lib.rt:138:15
 base-of-requires : tie.Need-base-of-requires
 base-of-requires c κs = search needs
 
--- src/lib.rt:139:23
 enum-known-k : tie.Need-enum-known-k
 enum-known-k c = search needs
 
--- src/lib.rt:139:29
 cast-result : tie.Need-cast-result
 cast-result c = omega (arith, base-at _ _ (sym (c .before .before .before .base-of .ensures) ∙ c .before .k .given .1) .0)
 
--- src/lib.rt:140:37
 enum-told : tie.Need-enum-told
 enum-told c = search needs
 
--- src/lib.rt:140:37
 named-of-requires : tie.Need-named-of-requires
 named-of-requires c κs = search needs
 
--- src/lib.rt:141:27
 enum-known-k-2 : tie.Need-enum-known-k-2
 enum-known-k-2 c = search needs
 
--- src/lib.rt:141:34
 add-result : tie.Need-add-result
 add-result c = omega (arith, named-at _ _ (sym (c .before .before .before .named-of .ensures) ∙ c .before .k2 .given .1))
 
--- src/lib.rt:141:33
 cast-result-2 : tie.Need-cast-result-2
 cast-result-2 c = omega (arith, named-at _ _ (sym (c .before .before .before .named-of .ensures) ∙ c .before .k2 .given .1))
 
--- src/lib.rt:142:35
 enum-told-2 : tie.Need-enum-told-2
 enum-told-2 c = search needs
 
--- src/lib.rt:134:5
 returns : tie.Need-returns
 unfolding kindOf
 returns c = rw (
@@ -54,7 +40,6 @@ returns c = rw (
   c .before .k .given .1,
 )
 
--- src/lib.rt:134:5
 returns-2 : tie.Need-returns-2
 unfolding kindOf
 returns-2 c = rw (
@@ -64,7 +49,6 @@ returns-2 c = rw (
   c .before .k2 .given .1,
 )
 
--- src/lib.rt:134:5
 returns-3 : tie.Need-returns-3
 unfolding kindOf
 returns-3 c = rw (

@@ -9,35 +9,25 @@ use mathlib.Core.Path.{_≡_, ap, _∙_}
 use borrow.Author.Needs.{needs}
 use Rattle.protocol.proofs.Out.bytes.Statement.{statement}
 use Rattle.protocol.proofs.Out.bytes.Tie as tie
-use Rattle.protocol.proofs.Out.bytes.Reads as reads
-use Rattle.protocol.proofs.Out.bytes.Lts as lts
-use Rattle.protocol.proofs.velocity.Reads as velocity-reads
 
--- src/lib.rt:259:24
 enum-known-self : tie.Need-enum-known-self
 enum-known-self c = search needs
 
--- src/lib.rt:259:51
 velocity-requires : tie.Need-velocity-requires
 velocity-requires c κs = search needs
 
--- src/lib.rt:260:29
 enum-known-self-2 : tie.Need-enum-known-self-2
 enum-known-self-2 c = search needs
 
--- src/lib.rt:261:18
 add-t9 : tie.Need-add-t9
 add-t9 c = search needs
 
--- src/lib.rt:261:39
 cast-t11 : tie.Need-cast-t11
 cast-t11 c = search needs
 
--- src/lib.rt:261:58
 cast-t14 : tie.Need-cast-t14
 cast-t14 c = search needs
 
--- src/lib.rt:254:5
 both : (out : Out) (r : List ℕ) → r ≡ bytesOf out → (r ≡ bytesOf out) × (decodeOf r ≡ heardOf out)
 both out r e = (e, ap decodeOf e ∙ reads-back out)
 

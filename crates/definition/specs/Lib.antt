@@ -9,3 +9,5 @@ pub mod Scenes
 pub mod Muting
 pub mod Buttons
 pub mod Step
+pub mod Shape
+pub mod Whole

@@ -1,0 +1,12 @@
+pub mod Bounds
+pub mod Spending
+pub mod Surface
+pub mod Hands
+pub mod Presses
+pub mod Events
+pub mod Used
+pub mod Room
+pub mod Profiles
+pub mod Stays
+pub mod Lasting
+pub mod Runs

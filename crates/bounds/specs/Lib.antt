@@ -1,0 +1,4 @@
+pub mod Bounds
+pub mod Drivers
+pub mod Room
+pub mod Runs

@@ -256,6 +256,22 @@ struct Device {
     rack: Rack,
 }
 
+/// A live list as a driver of the Rust hands it over.
+pub fn handed_over(items: &[LiveItem]) -> BTreeMap<u32, LiveFader> {
+    items
+        .iter()
+        .map(|i| {
+            let fader = LiveFader {
+                target: names::text(i.target).into(),
+                label: names::text(i.label).into(),
+                group: names::text(i.group).into(),
+                mute: names::optional(i.mute),
+            };
+            (u32::from(i.number), fader)
+        })
+        .collect()
+}
+
 impl Driver for Device {
     fn buttons(&self) -> &[(&'static str, &'static str)] {
         &self.rack.buttons[usize::from(self.driver)]
@@ -263,18 +279,7 @@ impl Driver for Device {
 
     fn live_faders(&mut self, which: &str) -> drivers::Result<BTreeMap<u32, LiveFader>> {
         match self.rack.ask(LIVE, self.driver, "", u32::from(names::number(which)), 0.0)? {
-            Answer::Live(items) => Ok(items
-                .iter()
-                .map(|i| {
-                    let fader = LiveFader {
-                        target: names::text(i.target).into(),
-                        label: names::text(i.label).into(),
-                        group: names::text(i.group).into(),
-                        mute: names::optional(i.mute),
-                    };
-                    (u32::from(i.number), fader)
-                })
-                .collect()),
+            Answer::Live(items) => Ok(handed_over(&items)),
             other => panic!("{other:?} fits no live call"),
         }
     }

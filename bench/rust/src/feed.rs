@@ -8,7 +8,7 @@ use std::sync::Arc;
 
 use oracle::bridge::Bridge;
 use oracle::drivers::{unsupported, Driver, LiveFader, Result};
-use oracle::line::{DeviceButton, LiveItem};
+use oracle::line::{self, DeviceButton, LiveItem};
 use oracle::names;
 use oracle::recording::{Case, Step};
 use oracle::records::{self, f64_at, u16_at, u32_at};
@@ -84,20 +84,7 @@ impl Driver for Device {
 
     fn live_faders(&mut self, _which: &str) -> Result<BTreeMap<u32, LiveFader>> {
         next(|a| match a {
-            Answer::List(items) => Some(
-                items
-                    .iter()
-                    .map(|i| {
-                        let fader = LiveFader {
-                            target: names::text(i.target).into(),
-                            label: names::text(i.label).into(),
-                            group: names::text(i.group).into(),
-                            mute: names::optional(i.mute),
-                        };
-                        (u32::from(i.number), fader)
-                    })
-                    .collect(),
-            ),
+            Answer::List(items) => Some(line::handed_over(items)),
             _ => None,
         })
     }

@@ -27,9 +27,8 @@ use Rattle.drivers.specs.Paired.{Asked, paired}
 use Rattle.drivers.specs.declared.Call.{Call}
 use Rattle.drivers.specs.declared.Level.{Level}
 use Rattle.drivers.specs.declared.Level.the-variants.{At, Unknown}
-use Rattle.session.specs.Session.{Hushed, targetsOf, isMarked, lastMove, placeMove, addTo, turn, stripAt, sameStrip, sameAt, sameStrips}
+use Rattle.session.specs.Session.{Turn, Hushed, targetsOf, isMarked, lastMove, placeMove, addTo, turn, stripAt, sameStrip, sameAt, sameStrips}
 use Rattle.session.specs.declared.Move.{Move}
-use Rattle.session.specs.declared.Turn.{Turn}
 use Rattle.session.specs.declared.Strip.{Strip}
 use Rattle.session.specs.declared.Lamps.{Lamps}
 use Rattle.event.specs.declared.Input.{Input}

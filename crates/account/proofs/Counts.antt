@@ -18,8 +18,7 @@ use Rattle.lookup.specs.declared.Destination.{Destination}
 use Rattle.lookup.specs.declared.Found.{Found}
 use Rattle.lookup.specs.declared.Found.the-variants as found
 use Rattle.drivers.specs.Paired.{Asked}
-use Rattle.session.specs.Session.{isMarked, lastMove, addTo}
-use Rattle.session.specs.declared.Turn.{Turn}
+use Rattle.session.specs.Session.{Turn, isMarked, lastMove, addTo}
 use Rattle.event.specs.declared.Input.{Input}
 use Rattle.event.specs.declared.Input.the-variants as input
 use Rattle.definition.specs.Rig.{Rig, destination, encoderDest}

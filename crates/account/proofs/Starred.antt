@@ -1,7 +1,7 @@
 -- The starred cases, computed.
 use lib.Dec.{T}
 use lib.Ieee.{add, sub, mul, div, lt, le, eq, ofInt, ofBits}
-use Rattle.base.specs.Keyed.{change}
+use Rattle.base.specs.Keyed.{change, beside}
 use Rattle.base.specs.Same.{sameList}
 use Rattle.base.specs.Words.{le64}
 use Rattle.float.specs.Leaf.{held, absOf, clampOf}
@@ -17,5 +17,5 @@ use Rattle.definition.specs.Step.{seen, act, refusal, step}
 use Rattle.account.specs.Starred.{starred, sameLists, waits, allPass}
 
 pub starred-pass : T (allPass starred)
-unfolding allPass sameList sameLists waits add sub mul div lt le eq ofInt ofBits change le64 held absOf clampOf decodeOf bytesOf toRead toOther answerOf itemCount itemsOf next ask isOpen opening plainCall openFor useCall readOf send isMarked markAt lastMove movedTo placeMove seenStrips flashing noFlash freshSession ownFader destination read finishFlash flashNumber holdMove takeMove fader seen act refusal step
+unfolding allPass sameList sameLists waits add sub mul div lt le eq ofInt ofBits change le64 held absOf clampOf decodeOf bytesOf toRead toOther answerOf itemCount itemsOf next ask isOpen opening plainCall openFor useCall readOf send isMarked markAt lastMove movedTo placeMove seenStrips flashing noFlash freshSession ownFader destination read finishFlash flashNumber holdMove takeMove fader seen act refusal step beside
 starred-pass = tt

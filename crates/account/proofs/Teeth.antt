@@ -9,7 +9,7 @@ use lib.ListN.{length}
 use lib.IntN.{ℤ, pos, negsuc}
 use lib.Ieee.{Float, binary64, ofBits, toBits, add, sub, mul, div, lt, le, eq}
 use Rattle.base.specs.First.{first}
-use Rattle.base.specs.Keyed.{find, change, keep}
+use Rattle.base.specs.Keyed.{find, change, keep, beside}
 use Rattle.base.specs.Range.{all, every}
 use Rattle.base.specs.Words.{le64}
 use Rattle.float.specs.Leaf.{f0, f1, absOf, clampOf, held}
@@ -20,7 +20,7 @@ use Rattle.drivers.specs.Answers.{isDone, toRead, toOther, answerOf, itemCount,
 use Rattle.drivers.specs.Talk.{Reply, next, ask, isOpen, opening, plainCall, openFor, useCall, useDone, readOf, writeCall, writeOf, send, scenesOf, currentOf, loadOf, liveOf}
 use Rattle.drivers.specs.declared.Call.{Call}
 use Rattle.drivers.specs.Paired.{Asked, paired}
-use Rattle.session.specs.Session.{hushedIn, turn, isMarked, markAt, noMarks, lastMove, movedTo, moveOf, placeMove, seenStrips, flashing, noFlash, freshSession, sceneAt, sceneTo, sceneUnknown, soloTo, noneNoted, stripsOf, stripOf, stripAt, stripDest, sameStrips, sameStrip, unmarkBank, unmarkUpTo}
+use Rattle.session.specs.Session.{turn, isMarked, markAt, noMarks, lastMove, movedTo, moveOf, placeMove, seenStrips, flashing, noFlash, freshSession, sceneAt, sceneTo, sceneUnknown, soloTo, noneNoted, stripsOf, stripOf, stripAt, stripDest, sameStrips, sameStrip, unmarkBank, unmarkUpTo}
 use Rattle.session.specs.declared.Marks.{Marks}
 use Rattle.session.specs.declared.Move.{Move}
 use Rattle.event.specs.declared.Input.{Input}
@@ -79,7 +79,7 @@ abbrev drains-once : Stepper
 drains-once v k e answers = idleIf (idle (e .what) (k .site .due)) v k e answers
 
 refuted-1 : Claim drains-once → ⊥
-unfolding pasts final account step refusal act fader takeMove tick drain drained nudges writes refreshLive tickFlash destination ownFader read readOf write writeOf useDone useCall openFor isOpen opening ask next plainCall writeCall answerOf toOther itemCount itemsOf isMarked markAt movedTo placeMove change lined replacedBy triedOf droppedOf paired opens seen freshSession seenStrips
+unfolding pasts final account step refusal act fader takeMove tick drain drained nudges writes refreshLive tickFlash destination ownFader read readOf write writeOf useDone useCall openFor isOpen opening ask next plainCall writeCall answerOf toOther itemCount itemsOf isMarked markAt movedTo placeMove change lined replacedBy triedOf droppedOf paired opens seen freshSession seenStrips beside
 refuted-1 c =
     let os : List Offer = at (move 0 f1) [] ∷ at input.Tick (doneThen (doneThen [])) ∷ at (move 0 most) [] ∷ at input.Tick [] ∷ [] in
     let e : _≡_ {A = ℕ} 1 0 = ap length (c (plain false) (omega arith) os .line) in
@@ -103,7 +103,7 @@ never-clears v k e answers = remarked (e .what) (k .desk .marks) (step v k e ans
 
 -- a move where the device reads nothing is taken over; bank right and left; then the device is far off, and the move is to be held
 refuted-2 : Claim never-clears → ⊥
-unfolding pasts final account step refusal addedBy act fader takeMove holdMove button pressOf stepBank selectBank nextBank flashBank flashNumber finishFlash phases phasesTo sendHome flashing noFlash pushState pushFaders pushFader pushPosition isMuted destination ownFader read readOf useCall openFor isOpen opening ask next plainCall answerOf toRead toOther itemCount itemsOf send bytesOf held isMarked markAt noMarks lastMove movedTo placeMove change reading lined replacedBy paired opens loads selects kindOf channelOf baseOf namedOf first le64 add sub mul div lt le eq ofBits absOf clampOf seen freshSession seenStrips hushedIn
+unfolding pasts final account step refusal addedBy act fader takeMove holdMove button pressOf stepBank selectBank nextBank flashBank flashNumber finishFlash phases phasesTo sendHome flashing noFlash pushState pushFaders pushFader pushPosition isMuted destination ownFader read readOf useCall openFor isOpen opening ask next plainCall answerOf toRead toOther itemCount itemsOf send bytesOf held isMarked markAt noMarks lastMove movedTo placeMove change reading lined replacedBy paired opens loads selects kindOf channelOf baseOf namedOf first le64 add sub mul div lt le eq ofBits absOf clampOf seen freshSession seenStrips beside
 refuted-2 c =
     let os : List Offer =
     at (move 0 most) (doneThen (nothingThen [])) ∷ at (press 0x2f) [] ∷ at (press 0x2e) [] ∷ at (move 0 f1) (levelThen 0xe0 0x3f []) ∷ [] in
@@ -125,7 +125,7 @@ abbrev sends-replaced : Stepper
 sends-replaced v k e answers = relined (e .what) (λ ch x. k .desk .line ++ (moveOf ch x ∷ [])) (step v k e answers)
 
 refuted-3 : Claim sends-replaced → ⊥
-unfolding pasts final account step refusal act fader takeMove destination ownFader isMarked markAt movedTo placeMove change lined replacedBy paired opens next seen freshSession seenStrips
+unfolding pasts final account step refusal act fader takeMove destination ownFader isMarked markAt movedTo placeMove change lined replacedBy paired opens next seen freshSession seenStrips beside
 refuted-3 c =
     let os : List Offer = at (move 0 most) [] ∷ at (move 0 f1) [] ∷ [] in
     let e : _≡_ {A = ℕ} 2 1 = ap length (c (plain false) (omega arith) os .line) in
@@ -137,7 +137,7 @@ abbrev loses-order : Stepper
 loses-order v k e answers = relined (e .what) (λ ch x. moveOf ch x ∷ k .desk .line) (step v k e answers)
 
 refuted-4 : Claim loses-order → ⊥
-unfolding pasts final account step refusal act fader takeMove destination ownFader isMarked markAt movedTo placeMove change lined replacedBy paired opens next seen freshSession seenStrips
+unfolding pasts final account step refusal act fader takeMove destination ownFader isMarked markAt movedTo placeMove change lined replacedBy paired opens next seen freshSession seenStrips beside
 refuted-4 c =
     let os : List Offer = at (move 0 most) [] ∷ at (move 1 f1) [] ∷ [] in
     let e : _≡_ {A = ℕ} 1 0 = ap headChannel (c (plain false) (omega arith) os .line) in
@@ -149,7 +149,7 @@ abbrev keeps-nothing : Stepper
 keeps-nothing v k e answers = stepped (step v k e answers .ended) k
 
 refuted-5 : Claim keeps-nothing → ⊥
-unfolding pasts final account step refusal act fader takeMove destination ownFader isMarked markAt movedTo placeMove change lined replacedBy paired opens next seen freshSession seenStrips
+unfolding pasts final account step refusal act fader takeMove destination ownFader isMarked markAt movedTo placeMove change lined replacedBy paired opens next seen freshSession seenStrips beside
 refuted-5 c =
     let e : _≡_ {A = ℕ} 0 1 = ap length (c (plain false) (omega arith) (at (move 0 f1) [] ∷ []) .line) in
     omega arith
@@ -176,7 +176,7 @@ tries-some (tried-one {l = l} u r) = at-least l u
     at-least l (not-used n) = omega arith
 
 refuted-6 : Claim writes-nothing → ⊥
-unfolding pasts final account ticks step refusal act fader takeMove destination ownFader isMarked markAt movedTo placeMove change lined replacedBy triedOf paired opens next seen freshSession seenStrips
+unfolding pasts final account ticks step refusal act fader takeMove destination ownFader isMarked markAt movedTo placeMove change lined replacedBy triedOf paired opens next seen freshSession seenStrips beside
 refuted-6 c = go (c (plain false) (omega arith) (at (move 0 f1) [] ∷ at input.Tick [] ∷ []) .drains)
   where
     none-left : (l m n : List Asked) → [] ≡ l ++ (m ++ n) → 1 ≤ length m → ⊥
@@ -227,7 +227,7 @@ sizeOf (negsuc n) = 0
 
 -- the device reads nothing, so that the sum is handed over unwritten
 refuted-8 : Claim hands-twice → ⊥
-unfolding pasts final account step refusal turnRefusal act encoder turn tick drain drained nudges applyNudge writes refreshLive tickFlash encoderDest find read readOf useCall openFor isOpen opening ask next plainCall answerOf toRead toOther itemCount itemsOf change summed sumFor sameDest every eq ofBits paired opens triedOf droppedOf seen freshSession seenStrips
+unfolding pasts final account step refusal turnRefusal act encoder turn tick drain drained nudges applyNudge writes refreshLive tickFlash encoderDest find read readOf useCall openFor isOpen opening ask next plainCall answerOf toRead toOther itemCount itemsOf change summed sumFor sameDest every eq ofBits paired opens triedOf droppedOf seen freshSession seenStrips beside
 refuted-8 c =
     let os : List Offer = at (input.Midi (event.Encoder 0 (pos 1))) [] ∷ at input.Tick (doneThen (nothingThen [])) ∷ [] in
     let e : _≡_ {A = ℕ} 1 0 = ap sizeOf (c (plain false) (omega arith) os .sums (dest false)) in
@@ -271,7 +271,7 @@ next-level later asked (tried-one {t = t} {l = l} u r) e k d = go u e
     go (not-used n) e = absurd (false≢true (sym (ap doneFirst e) ∙ d))
 
 refuted-9 : Claim writes-another → ⊥
-unfolding pasts final account ticks step refusal act fader takeMove tick drain drained nudges writes refreshLive tickFlash write writeOf useDone useCall openFor isOpen opening ask itemsOf destination ownFader isMarked markAt movedTo placeMove change lined replacedBy triedOf paired opens next plainCall writeCall answerOf toOther itemCount add sub mul ofBits toBits seen freshSession seenStrips
+unfolding pasts final account ticks step refusal act fader takeMove tick drain drained nudges writes refreshLive tickFlash write writeOf useDone useCall openFor isOpen opening ask itemsOf destination ownFader isMarked markAt movedTo placeMove change lined replacedBy triedOf paired opens next plainCall writeCall answerOf toOther itemCount add sub mul ofBits toBits seen freshSession seenStrips beside
 refuted-9 c = go (c (plain false) (omega arith) (at (move 0 f1) [] ∷ at input.Tick (doneThen (doneThen [])) ∷ []) .drains)
   where
     asked : List Asked
@@ -301,7 +301,7 @@ abbrev scene-answers : List ℕ
 scene-answers = nothingThen (6 ∷ 0 ∷ 1 ∷ 0 ∷ 0 ∷ 0 ∷ 0 ∷ 0 ∷ 0 ∷ 0 ∷ 0 ∷ 0 ∷ 0 ∷ 0 ∷ 0 ∷ 0 ∷ 7 ∷ 0 ∷ 5 ∷ 0 ∷ 0 ∷ 0 ∷ 0 ∷ 0 ∷ 0 ∷ 0 ∷ 0 ∷ 0 ∷ 0 ∷ 0 ∷ 0 ∷ 0 ∷ doneThen [])
 
 refuted-10 : Claim keeps-on-load → ⊥
-unfolding pasts final account step refusal addedBy act fader takeMove holdMove button pressOf nextBank stepScene scene sceneNames sceneOnDevice loadOn loadSceneAt start sceneAt sceneTo sceneUnknown soloTo noneNoted position device bankDriver flashNumber finishFlash phases phasesTo sendHome flashing noFlash pushState pushFaders pushFader pushPosition isMuted destination ownFader read readOf useDone useCall openFor isOpen opening ask next plainCall scenesOf currentOf loadOf answerOf toRead toScenes sceneList toCurrent toOther itemCount itemsOf all send bytesOf held isMarked markAt noMarks lastMove movedTo placeMove change reading lined replacedBy paired opens loads selects kindOf channelOf baseOf namedOf first le64 add sub mul div lt le eq ofBits absOf clampOf seen freshSession seenStrips hushedIn
+unfolding pasts final account step refusal addedBy act fader takeMove holdMove button pressOf nextBank stepScene scene sceneNames sceneOnDevice loadOn loadSceneAt start sceneAt sceneTo sceneUnknown soloTo noneNoted position device bankDriver flashNumber finishFlash phases phasesTo sendHome flashing noFlash pushState pushFaders pushFader pushPosition isMuted destination ownFader read readOf useDone useCall openFor isOpen opening ask next plainCall scenesOf currentOf loadOf answerOf toRead toScenes sceneList toCurrent toOther itemCount itemsOf all send bytesOf held isMarked markAt noMarks lastMove movedTo placeMove change reading lined replacedBy paired opens loads selects kindOf channelOf baseOf namedOf first le64 add sub mul div lt le eq ofBits absOf clampOf seen freshSession seenStrips beside
 refuted-10 c =
     let os : List Offer = at (move 0 most) (doneThen (nothingThen [])) ∷ at (press 0x63) scene-answers ∷ at (move 0 f1) (levelThen 0xe0 0x3f []) ∷ [] in
     false≢true (sym (ap (headIs f1) (c paged (omega arith) os .line)))
@@ -327,7 +327,7 @@ at-one e answers = record { event = event-read.Known (record { time = f1; what =
 
 -- the list comes, a move on it is taken over, a second later the list is another, and the next move there is to be held
 refuted-11 : Claim keeps-on-live → ⊥
-unfolding pasts final account step refusal act fader takeMove holdMove tick drain drained nudges writes refreshLive liveOf stripsOf stripOf stripAt stripDest sameStrips sameStrip keep find tickFlash write writeOf writeCall unmarkBank unmarkUpTo pushState pushFaders pushFader pushPosition isMuted destination ownFader read readOf useDone useCall openFor isOpen opening ask next plainCall answerOf toRead toLive liveList toOther itemCount itemsOf all send bytesOf held isMarked markAt noMarks lastMove movedTo placeMove change reading lined replacedBy triedOf droppedOf paired opens le64 add sub mul div lt le eq ofBits toBits absOf clampOf seen freshSession seenStrips hushedIn
+unfolding pasts final account step refusal act fader takeMove holdMove tick drain drained nudges writes refreshLive liveOf stripsOf stripOf stripAt stripDest sameStrips sameStrip keep find tickFlash write writeOf writeCall unmarkBank unmarkUpTo pushState pushFaders pushFader pushPosition isMuted destination ownFader read readOf useDone useCall openFor isOpen opening ask next plainCall answerOf toRead toLive liveList toOther itemCount itemsOf all send bytesOf held isMarked markAt noMarks lastMove movedTo placeMove change reading lined replacedBy triedOf droppedOf paired opens le64 add sub mul div lt le eq ofBits toBits absOf clampOf seen freshSession seenStrips beside
 refuted-11 c =
     let os : List Offer =
     at input.Tick (doneThen (live-list 7)) ∷ at (move 0 most) (nothingThen []) ∷ at-one input.Tick (doneThen (live-list 8)) ∷ at-one (move 0 f1) (levelThen 0xe0 0x3f []) ∷ [] in

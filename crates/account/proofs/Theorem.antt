@@ -15,8 +15,8 @@ use Rattle.lookup.specs.declared.Found.{Found}
 use Rattle.lookup.specs.declared.Found.the-variants as found
 use Rattle.drivers.specs.Talk.{Stop, going, waits, declined, overrun, start, Got}
 use Rattle.drivers.specs.Paired.{Asked, paired}
-use Rattle.session.specs.Session.{isMarked, lastMove, freshSession}
-use Rattle.session.specs.declared.Turn.{Turn}
+use Rattle.base.specs.Keyed.{beside}
+use Rattle.session.specs.Session.{Turn, isMarked, lastMove, freshSession}
 use Rattle.event.specs.declared.Input.{Input}
 use Rattle.event.specs.declared.Input.the-variants as input
 use Rattle.event.specs.declared.Timed.{Timed}
@@ -149,7 +149,7 @@ all v few (o ∷ os) i k a ms ts ks qs h =
     (offered-so v few i (o .event) (o .answers) k a ms ts ks qs h))
 
 begins : (k : Kept) → Begins k → Inv [] [] [] [] k blank
-unfolding seen freshSession count sumFor handed tried
+unfolding seen freshSession count sumFor handed tried beside
 begins k b =
     record {
       desk = b .desk;
@@ -177,7 +177,7 @@ demand-3-from k b v few os =
     }
 
 pub fresh-begins : Begins fresh
-unfolding seen freshSession
+unfolding seen freshSession beside
 fresh-begins = record { desk = refl; opened = refl; bank = omega arith; lives = refl }
 
 pub demand-3 : Demand3

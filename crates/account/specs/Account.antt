@@ -27,11 +27,10 @@ use Rattle.drivers.specs.declared.Answer.{Answer}
 use Rattle.drivers.specs.declared.Answer.the-variants as answer
 use Rattle.drivers.specs.declared.Level.{Level}
 use Rattle.drivers.specs.declared.Level.the-variants.{At, Unknown}
-use Rattle.session.specs.Session.{isMarked, markAt, noMarks, unmarkBank, lastMove, movedTo, moveOf, addTo, firstTurn, sameStrips, freshSession}
+use Rattle.session.specs.Session.{Turn, isMarked, markAt, noMarks, unmarkBank, lastMove, movedTo, moveOf, addTo, firstTurn, sameStrips}
 use Rattle.session.specs.declared.Marks.{Marks}
 use Rattle.session.specs.declared.Moves.{Moves}
 use Rattle.session.specs.declared.Move.{Move}
-use Rattle.session.specs.declared.Turn.{Turn}
 use Rattle.session.specs.declared.Strip.{Strip}
 use Rattle.event.specs.declared.Input.{Input}
 use Rattle.event.specs.declared.Input.the-variants as input
@@ -43,7 +42,7 @@ use Rattle.definition.specs.Levels.{normal, read}
 use Rattle.definition.specs.Faders.{isHeld, isZero}
 use Rattle.definition.specs.Banks.{nextBank}
 use Rattle.definition.specs.Buttons.{orFirst}
-use Rattle.definition.specs.Step.{Site, Kept, seen, Ended, done, refused, waiting, Stepped, stepped, step}
+use Rattle.definition.specs.Step.{Site, Kept, freshKept, Ended, done, refused, waiting, Stepped, stepped, step}
 
 -- ── calls and their answers ──
 
@@ -585,7 +584,7 @@ pub record Holds (v : View) (ps : List (Option Past)) (k : Kept) (a : Account) :
   pub turned : (d : Destination) → sumFor d (turns v ps) ≡ sumFor d (handed (a .drains)) +ℤ sumFor d (a .sums)
 
 abbrev pub fresh : Kept
-fresh = seen freshSession
+fresh = freshKept
 
 -- for every list of offers, whatever comes of each; banks are 0 to 15
 abbrev pub ClaimFrom : Kept → Stepper → Type 0

@@ -39,3 +39,10 @@ module _ {A : Type 0} where
   unfoldable pub noTwice : (A → A → Bool) → List A → Bool
   noTwice same [] = true
   noTwice same (x ∷ xs) = pick (anyOf (same x) xs) false (noTwice same xs)
+
+-- two lists side by side, each two made into one
+module _ {A B C : Type 0} where
+  unfoldable pub beside : (A → B → C) → List A → List B → List C
+  beside f [] ys = []
+  beside f (x ∷ xs) [] = []
+  beside f (x ∷ xs) (y ∷ ys) = f x y ∷ beside f xs ys

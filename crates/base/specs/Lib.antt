@@ -1,3 +1,4 @@
+pub mod BesideLaws
 pub mod Choice
 pub mod Range
 pub mod RangeLaws

@@ -20,7 +20,6 @@ use Rattle.lookup.specs.View.{View}
 use Rattle.lookup.specs.declared.Entry.{Entry}
 use Rattle.lookup.specs.declared.Found.{Found}
 use Rattle.lookup.specs.declared.Found.the-variants as found
-use Rattle.drivers.specs.Talk.{Talk}
 use Rattle.session.specs.Session.{targetsOf, stripsOr, stripAt, foundStrip}
 use Rattle.session.specs.declared.Strip.{Strip}
 use Rattle.event.specs.declared.Input.{Input}
@@ -139,18 +138,18 @@ callCost input.PushState v k = 16
 callCost input.PushTransport v k = lampEntries v k
 callCost input.FlashBank v k = 16
 
-module _ {D : ℕ → Type 0} {I : ℕ → ℕ → Talk → Type 0} (R : Rules D I) (v : View) (k : Kept) (may : MayView D v) (held : MayKept D k) where
+module _ {D : ℕ → Type 0} (R : Rules D) (v : View) (k : Kept) (may : MayView D v) (held : MayKept D k) where
   rig : (b : ℕ) → MayRig D (rigAt v k b)
   rig b = rig-may D v may (k .site .lives) b (held .lives b)
 
   pub here : MayRig D (rigNow v k)
   here = rig (k .site .bank)
 
-  button-costs : (b : Bool) (now : Float) (note : ℕ) → Takes I 89 64 (onButton b v k now note)
+  button-costs : (b : Bool) (now : Float) (note : ℕ) → Takes R 89 64 (onButton b v k now note)
   button-costs true now note = bind R (button-takes R (pressAt v k now) here (λ b. rig b .to) note) (λ p. done R)
   button-costs false now note = still R
 
-  midi-takes : (e : Event) (now : Float) → Takes I 89 64 (onMidi e v k now)
+  midi-takes : (e : Event) (now : Float) → Takes R 89 64 (onMidi e v k now)
   midi-takes (event.Fader ch x) now =
       upTo R (bind R (fader-takes R (rigNow v k) (here .to) ch x (k .desk)) (λ d. done R)) (omega arith) (omega arith)
   midi-takes (event.Encoder ch n) now = still R
@@ -161,7 +160,7 @@ module _ {D : ℕ → Type 0} {I : ℕ → ℕ → Talk → Type 0} (R : Rules D
   known = getD (k .site .lives) (k .site .bank) none
 
   flash-takes : (due : Bool) (now : Float) (r : Refreshed) → Each (MayStrip D) (r .strips) →
-      Takes I (endCost (k .lamps .flash .on) (k .lamps .flash .sent)) 16 (flashTick due v k now r)
+      Takes R (endCost (k .lamps .flash .on) (k .lamps .flash .sent)) 16 (flashTick due v k now r)
   flash-takes due now r h =
       upTo R
       (bind R
@@ -169,7 +168,7 @@ module _ {D : ℕ → Type 0} {I : ℕ → ℕ → Talk → Type 0} (R : Rules D
       (λ l. done R {a = afterTick due k now r l}))
       (omega arith) (omega arith)
 
-  tick-takes : (due : Bool) (now : Float) → Takes I (tickMessages k) (tickCalls k) (tickWith due v k now)
+  tick-takes : (due : Bool) (now : Float) → Takes R (tickMessages k) (tickCalls k) (tickWith due v k now)
   tick-takes due now =
       upTo R
       (bindSo R {f = λ t. refreshDue due known (rigNow v k) (k .lamps) (targetsOf (k .silenced)) (drain (rigNow v k) (k .desk) t)} {g = flashTick due v k now}
@@ -180,7 +179,7 @@ module _ {D : ℕ → Type 0} {I : ℕ → ℕ → Talk → Type 0} (R : Rules D
       (flash-takes due now))
       (omega arith) (omega arith)
 
-  pub act-takes : (e : Input) (now : Float) → Takes I (messageCost e v k) (callCost e v k) (act e v k now)
+  pub act-takes : (e : Input) (now : Float) → Takes R (messageCost e v k) (callCost e v k) (act e v k now)
   unfolding act tick pushTransport
   act-takes (input.Midi e) now = midi-takes e now
   act-takes input.Tick now = tick-takes (isDue (k .site .due) (k .site .at) now) now

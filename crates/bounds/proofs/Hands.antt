@@ -21,10 +21,9 @@ use Rattle.drivers.specs.Talk.{Talk, next, plainCall, liveOf}
 use Rattle.drivers.specs.declared.Level.{Level}
 use Rattle.drivers.specs.declared.Level.the-variants.{At, Unknown}
 use Rattle.drivers.specs.declared.LiveFader.{LiveFader}
-use Rattle.session.specs.Session.{isMarked, stripOf, stripsOf, stripAt, isStrip, stripDest, foundStrip, onSurface}
+use Rattle.session.specs.Session.{Turn, isMarked, stripOf, stripsOf, stripAt, isStrip, stripDest, foundStrip, onSurface}
 use Rattle.session.specs.declared.Lamps.{Lamps}
 use Rattle.session.specs.declared.Move.{Move}
-use Rattle.session.specs.declared.Turn.{Turn}
 use Rattle.session.specs.declared.Strip.{Strip}
 use Rattle.definition.specs.Rig.{Rig, ownFader, destination, withStrips}
 use Rattle.definition.specs.Levels.{read, write}
@@ -70,60 +69,60 @@ module _ (D : ℕ → Type 0) where
       go found.Nothing true x y p q = p
       go found.Nothing false x y p q = q
 
-module _ {D : ℕ → Type 0} {I : ℕ → ℕ → Talk → Type 0} (R : Rules D I) where
+module _ {D : ℕ → Type 0} (R : Rules D) where
   -- ── a move ──
-  faderIf-takes : (b : Bool) (e : Destination) (k ch : ℕ) (x : Float) (d : Desk) → D (e .driver) → Takes I 0 1 (faderIf b e k ch x d)
+  faderIf-takes : (b : Bool) (e : Destination) (k ch : ℕ) (x : Float) (d : Desk) → D (e .driver) → Takes R 0 1 (faderIf b e k ch x d)
   faderIf-takes true e k ch x d h = bind R (takes-read R e h) (λ c. done R)
   faderIf-takes false e k ch x d h = still R
 
-  faderTo-takes : (f : Found) (k ch : ℕ) (x : Float) (d : Desk) → MayTo D f → Takes I 0 1 (faderTo f k ch x d)
+  faderTo-takes : (f : Found) (k ch : ℕ) (x : Float) (d : Desk) → MayTo D f → Takes R 0 1 (faderTo f k ch x d)
   faderTo-takes (found.To e) k ch x d h = faderIf-takes (e .takeover && not (isMarked k (d .marks))) e k ch x d h
   faderTo-takes found.Nothing k ch x d h = still R
 
-  pub fader-takes : (r : Rig) → ((n : ℕ) → MayTo D (destination r n)) → (ch : ℕ) (x : Float) (d : Desk) → Takes I 0 1 (fader r ch x d)
+  pub fader-takes : (r : Rig) → ((n : ℕ) → MayTo D (destination r n)) → (ch : ℕ) (x : Float) (d : Desk) → Takes R 0 1 (fader r ch x d)
   unfolding fader
   fader-takes r to ch x d = faderTo-takes (destination r (ch + 1)) (keyOf r ch) ch x d (to (ch + 1))
 
   -- ── the drain ──
-  from-costs : (e : Destination) (sum : ℤ) (c : Level) → D (e .driver) → Costs I 0 1 (nudgeFrom c e sum)
+  from-costs : (e : Destination) (sum : ℤ) (c : Level) → D (e .driver) → Costs R 0 1 (nudgeFrom c e sum)
   from-costs e sum (At c) h = line-of R (takes-write R e (nudge c sum) h)
   from-costs e sum Unknown h = stay R
 
-  nudgeIf-costs : (b : Bool) (e : Turn) → MayTurn D e → Costs I 0 2 (nudgeIf b e)
+  nudgeIf-costs : (b : Bool) (e : Turn) → MayTurn D e → Costs R 0 2 (nudgeIf b e)
   nudgeIf-costs true e h = stay R
   nudgeIf-costs false e h = onto R {f = read (e .dest)} (takes-read R (e .dest) h) (λ c. from-costs (e .dest) (e .sum) c h)
 
-  nudges-cost : (l : List Turn) → Each (MayTurn D) l → Costs I 0 (2 * length l) (nudges l)
+  nudges-cost : (l : List Turn) → Each (MayTurn D) l → Costs R 0 (2 * length l) (nudges l)
   unfolding nudges applyNudge
   nudges-cost [] h = stay R
   nudges-cost (e ∷ l) (one-more d h) = more R (after R (nudges-cost l h) (nudgeIf-costs (isZero (e .sum)) e d)) (omega arith) (omega arith)
 
-  align-costs : (b : Bool) (ch : ℕ) (x : Float) → Costs I 1 0 (alignIf b ch x)
+  align-costs : (b : Bool) (ch : ℕ) (x : Float) → Costs R 1 0 (alignIf b ch x)
   align-costs true ch x = says R (sentTo ch x)
   align-costs false ch x = stay R
 
-  move-costs : (b : Bool) (f : Found) (m : Move) → MayTo D f → Costs I 1 1 (writeMove b f m)
+  move-costs : (b : Bool) (f : Found) (m : Move) → MayTo D f → Costs R 1 1 (writeMove b f m)
   move-costs b (found.To e) m h =
       onto R {f = write e (m .level)} (takes-write R e (m .level) h) (λ v. align-costs (v && b) (m .channel) (m .level))
   move-costs b found.Nothing m h = stay R
 
   module _ (r : Rig) (to : (n : ℕ) → MayTo D (destination r n)) where
-    writes-cost : (l : List Move) → Costs I (length l) (length l) (writes r l)
+    writes-cost : (l : List Move) → Costs R (length l) (length l) (writes r l)
     unfolding writes
     writes-cost [] = stay R
     writes-cost (m ∷ l) =
         more R (after R (writes-cost l) (move-costs (r .positions) (destination r (m .channel + 1)) m (to (m .channel + 1)))) (omega arith) (omega arith)
 
-    pub drain-costs : (d : Desk) → Each (MayTurn D) (d .turns) → Costs I (length (d .line)) (2 * length (d .turns) + length (d .line)) (drain r d)
+    pub drain-costs : (d : Desk) → Each (MayTurn D) (d .turns) → Costs R (length (d .line)) (2 * length (d .turns) + length (d .line)) (drain r d)
     unfolding drain
     drain-costs d h = more R (after R (writes-cost (d .line)) (nudges-cost (d .turns) h)) (omega arith) (omega arith)
 
     -- ── a live bank ──
-    change-takes : (b : Bool) (l : List Strip) (x : Lamps) (s : List ℕ) → Each (MayStrip D) l → Takes I 40 16 (changeIf b l r x s)
+    change-takes : (b : Bool) (l : List Strip) (x : Lamps) (s : List ℕ) → Each (MayStrip D) l → Takes R 40 16 (changeIf b l r x s)
     change-takes true l x s h = still R
     change-takes false l x s h = giving R (push-costs R (withStrips l r) (with-may D r to l h) x s)
 
-    live-takes : (driver which : ℕ) → D driver → Takes I 0 1 (liveOf driver which)
+    live-takes : (driver which : ℕ) → D driver → Takes R 0 1 (liveOf driver which)
     unfolding liveOf plainCall
     live-takes driver which d = bind R (takes-use R (plainCall 9 driver 0 which) d) (λ x. done R)
 
@@ -133,13 +132,13 @@ module _ {D : ℕ → Type 0} {I : ℕ → ℕ → Talk → Type 0} (R : Rules D
       driven true b h e = absurd (true≢false e)
       driven false b h e = h e
 
-      askIf-takes : (b : Bool) (known : Option (List Strip)) (x : Lamps) (s : List ℕ) → (b ≡ false → D (r .here .part .device)) → Takes I 40 17 (askIf b known r x s)
+      askIf-takes : (b : Bool) (known : Option (List Strip)) (x : Lamps) (s : List ℕ) → (b ≡ false → D (r .here .part .device)) → Takes R 40 17 (askIf b known r x s)
       askIf-takes true known x s h = still R
       askIf-takes false known x s h =
           bind R (live-takes (r .here .part .device) (r .here .part .live) (h refl))
           (λ l. change-takes (sameAs known _) (handed (r .here .part .device) l) x s (strips-may D (r .here .part .device) (h refl) (l .list)))
 
-      pub refresh-takes : (b : Bool) (known : Option (List Strip)) (x : Lamps) (s : List ℕ) → Takes I 40 17 (refreshDue b known r x s)
+      pub refresh-takes : (b : Bool) (known : Option (List Strip)) (x : Lamps) (s : List ℕ) → Takes R 40 17 (refreshDue b known r x s)
       unfolding refreshLive
       refresh-takes true known x s =
           askIf-takes (eqb (r .here .part .live) 65535 || eqb (r .here .part .device) 65535) known x s

@@ -7,6 +7,14 @@ pub mod Events
 pub mod Used
 pub mod Room
 pub mod Profiles
-pub mod Stays
-pub mod Lasting
-pub mod Runs
+pub mod Silencing
+pub mod WellFlash
+pub mod WellPress
+pub mod WellLive
+pub mod WellDesk
+pub mod WellRoom
+pub mod WellStep
+pub mod Channels
+pub mod Reading
+pub mod Steady
+pub mod Longer

@@ -15,7 +15,7 @@ use Rattle.base.specs.declared.Place.{Place}
 use Rattle.base.specs.declared.Place.the-variants as place
 use Rattle.profile.specs.Profile.{records, byteAt, halfAt, isKind, verdict}
 use Rattle.profile.specs.RangeMore.{count-reach}
-use Rattle.profile.specs.Fields.{fader-at, encoder-at, bank-at, transport-at}
+use Rattle.profile.specs.Fields.{fader-at, bank-at, transport-at}
 use Rattle.profile.specs.Accepted.{accepted}
 use Rattle.lookup.specs.Gather.{gather}
 use Rattle.lookup.specs.GatherLaws.{gather-length}
@@ -43,16 +43,6 @@ module _ (s : List ℕ) (yes : verdict s ≡ 0) where
       go (place.At k) e =
           let w = entry-is s 2 part n k e in
           low-byte k (fader-at s (accepted s yes .fields) k (w .in-file) (w .kind-is) .driver)
-      go place.Nothing e = tt
-
-  encoder-may : (part n : ℕ) → MayTo IsDriver (controlOf s 3 part n)
-  unfolding controlOf
-  encoder-may part n = go (entry s 3 part n) refl
-    where
-      go : (p : Place) → entry s 3 part n ≡ p → MayTo IsDriver (foundAt s p)
-      go (place.At k) e =
-          let w = entry-is s 3 part n k e in
-          low-byte k (encoder-at s (accepted s yes .fields) k (w .in-file) (w .kind-is) .driver)
       go place.Nothing e = tt
 
   device-may : (b : ℕ) → eqb (halfOf s 6 65535 (entry s 1 b 0)) 65535 ≡ false → IsDriver (halfOf s 6 65535 (entry s 1 b 0))
@@ -115,8 +105,6 @@ module _ (s : List ℕ) (yes : verdict s ≡ 0) where
               commands = transports-may 255;
               own = transports-may;
             };
-        encoders = encoder-may 255;
-        turned = encoder-may;
         globals = few 255;
         own = few;
       }

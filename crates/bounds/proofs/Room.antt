@@ -22,7 +22,7 @@ use Rattle.event.specs.declared.Input.the-variants as input
 use Rattle.event.specs.declared.Timed.{Timed}
 use Rattle.definition.specs.Step.{Kept, Left, Ended, done, finish, stepIf, refusal, act, step}
 use Rattle.bounds.specs.Room.{IsDriver, shut, Sound, Within, Room, FewOf}
-use Rattle.bounds.proofs.Spending.{Rules}
+use Rattle.bounds.proofs.Spending.{Rules, Spent, spending}
 use Rattle.bounds.proofs.Surface.{endCost}
 use Rattle.bounds.proofs.Events.{act-takes, messageCost, callCost}
 
@@ -175,14 +175,17 @@ use-room {m} {c} x t d h = at ((openFor (x .driver) (x .name) t) .value) refl
     at true e = ask-room x u (o .ready e) .room
     at false e = o .room
 
-pub room-rules : Rules IsDriver Room
-room-rules =
+pub room-spent : Spent IsDriver Room
+room-spent =
     record {
       less = λ p q i. record { messages = omega (arith, i .messages, p); calls = omega (arith, i .calls, q); opened = i .opened; never = i .never };
       say = λ {m} {c} {t} out i. send-room out t i;
       opens = λ {m} {c} {t} driver name d i. open-room driver name t d i .room;
       uses = λ {m} {c} {t} x d i. use-room x t d i;
     }
+
+abbrev pub room-rules : Rules IsDriver
+room-rules = spending room-spent
 
 -- ── any event ──
 

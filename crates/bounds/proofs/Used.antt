@@ -22,14 +22,13 @@ use Rattle.drivers.specs.Talk.{Stop, going, waits, declined, overrun, Talk, Got
 use Rattle.drivers.specs.declared.Call.{Call}
 use Rattle.drivers.specs.declared.Answer.{Answer}
 use Rattle.drivers.specs.declared.Answer.the-variants as answer
-use Rattle.session.specs.Session.{stripsOr}
-use Rattle.session.specs.declared.Turn.{Turn}
+use Rattle.session.specs.Session.{Turn, stripsOr}
 use Rattle.session.specs.declared.Strip.{Strip}
 use Rattle.event.specs.declared.Timed.{Timed}
 use Rattle.definition.specs.Step.{Kept, Left, Ended, done, finish, stepIf, refusal, act, step}
 use Rattle.bounds.specs.Bounds.{UsedOf}
 use Rattle.bounds.specs.Drivers.{MayTo, MayAll, no-entry, one-entry, Each, no-more, one-more, MayTurn, MayStrip, MayView, MayKept}
-use Rattle.bounds.proofs.Spending.{Rules}
+use Rattle.bounds.proofs.Spending.{Rules, Spent, spending}
 use Rattle.bounds.proofs.Events.{act-takes}
 
 -- ── an answer that fits is there with all its items ──
@@ -98,7 +97,7 @@ module _ (part : List ℕ) where
       there-pick (ltb (length part) 16) answer.Unfit _ (there-not answer.Unfit refl)
       (there-pick (eqb (getD part 0 0) 0) answer.Refused (answerTo kind (getD part 0 0) part) (there-not answer.Refused refl) (there-answer kind (getD part 0 0)))
 
-  long : (kind : ℕ) → isUnfit (answerOf part kind) ≡ false → 16 ≤ length part
+  pub long : (kind : ℕ) → isUnfit (answerOf part kind) ≡ false → 16 ≤ length part
   unfolding answerOf
   long kind e = go (ltb (length part) 16) refl _ e
     where
@@ -106,7 +105,7 @@ module _ (part : List ℕ) where
       go true q y u = absurd (true≢false u)
       go false q y u = ltb-false (length part) 16 q
 
-  items-there : (kind : ℕ) → isUnfit (answerOf part kind) ≡ false → 16 + 16 * itemCount (answerOf part kind) part ≤ length part
+  pub items-there : (kind : ℕ) → isUnfit (answerOf part kind) ≡ false → 16 + 16 * itemCount (answerOf part kind) part ≤ length part
   unfolding itemCount
   items-there kind u = go (isList (answerOf part kind)) refl (long kind u)
     where
@@ -190,17 +189,20 @@ use-fair all c t h = at ((openFor (c .driver) (c .name) t) .value)
 
 -- ── any event, with any driver ──
 
-abbrev Any : ℕ → Type 0
+abbrev pub Any : ℕ → Type 0
 Any driver = Unit {0}
 
-fair-rules : (all : ℕ) → Rules Any (Fair all)
-fair-rules all =
+fair-spent : (all : ℕ) → Spent Any (Fair all)
+fair-spent all =
     record {
       less = λ p q i. i;
       say = λ {m} {c} {t} out i. send-fair all out t i;
       opens = λ {m} {c} {t} driver name d i. open-fair all driver name t i;
       uses = λ {m} {c} {t} x d i. use-fair all x t i;
     }
+
+abbrev fair-rules : (all : ℕ) → Rules Any
+fair-rules all = spending (fair-spent all)
 
 any-to : (f : Found) → MayTo Any f
 any-to (found.To d) = tt
@@ -218,7 +220,7 @@ any-turns : (l : List Turn) → Each (MayTurn Any) l
 any-turns [] = no-more
 any-turns (x ∷ l) = one-more tt (any-turns l)
 
-any-view : (v : View) → MayView Any v
+pub any-view : (v : View) → MayView Any v
 any-view v =
     record {
       first = tt;
@@ -229,7 +231,7 @@ any-view v =
       own = λ b. any-all (v .here b .transports);
     }
 
-any-kept : (k : Kept) → MayKept Any k
+pub any-kept : (k : Kept) → MayKept Any k
 any-kept k = record { lives = λ b. any-strips (stripsOr (getD (k .site .lives) b none)); turns = any-turns (k .desk .turns) }
 
 act-fair : (v : View) (k : Kept) (e : Timed) (answers : List ℕ) →

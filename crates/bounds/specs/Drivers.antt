@@ -10,8 +10,7 @@ use Rattle.lookup.specs.View.{View}
 use Rattle.lookup.specs.declared.Entry.{Entry}
 use Rattle.lookup.specs.declared.Found.{Found}
 use Rattle.lookup.specs.declared.Found.the-variants as found
-use Rattle.session.specs.Session.{stripsOr}
-use Rattle.session.specs.declared.Turn.{Turn}
+use Rattle.session.specs.Session.{Turn, stripsOr}
 use Rattle.session.specs.declared.Strip.{Strip}
 use Rattle.definition.specs.Step.{Kept}
 

@@ -1,4 +1,5 @@
 pub mod Bounds
 pub mod Drivers
+pub mod Longer
+pub mod Well
 pub mod Room
-pub mod Runs

@@ -8,11 +8,11 @@ use Rattle.protocol.specs.declared.Event.{Event}
 use Rattle.protocol.specs.declared.Event.the-variants as event
 use Rattle.lookup.specs.View.{View}
 use Rattle.drivers.specs.Talk.{overrun, Talk}
-use Rattle.session.specs.SessionLaws.{WellLine}
 use Rattle.event.specs.declared.Input.{Input}
 use Rattle.event.specs.declared.Input.the-variants as input
+use Rattle.definition.specs.Faders.{inRange}
 use Rattle.definition.specs.Step.{Kept, Ended, done, refused, waiting}
-use Rattle.bounds.specs.Drivers.{MayTo, MayView, MayKept}
+use Rattle.bounds.specs.Drivers.{MayView, MayKept}
 
 -- a driver is 0 to 15
 abbrev pub IsDriver : ℕ → Type 0
@@ -30,8 +30,6 @@ shut (b ∷ l) = shutOne b + shut l
 -- a profile's drivers are drivers, and it has at most "16 transports in one bank (or globals)"
 pub record Sound (v : View) : Type 0 where
   pub drivers : MayView IsDriver v
-  pub encoders : (n : ℕ) → MayTo IsDriver (v .globals .encoder n)
-  pub turned : (b n : ℕ) → MayTo IsDriver (v .here b .encoder n)
   pub globals : length (v .globals .transports) ≤ 16
   pub own : (b : ℕ) → length (v .here b .transports) ≤ 16
 
@@ -56,15 +54,10 @@ FewOf (done ms cs used saved) = (length ms ≤ 102) × (length cs ≤ 337)
 FewOf (refused why) = Unit {0}
 FewOf (waiting c) = Unit {0}
 
--- a session that stays within its capacities: the waiting moves are of channels 0 to 15, each once
-pub record Lasting (k : Kept) : Type 0 where
-  pub within : Within k
-  pub line : WellLine (k .desk .line)
-
--- a fader's channel is 0 to 15
+-- a fader's channel is 0 to 15, and a turn is by no more than a sum may be: all that the bytes of a message can say
 abbrev pub LowEvent : Event → Type 0
 LowEvent (event.Fader ch value) = ch < 16
-LowEvent (event.Encoder ch delta) = Unit {0}
+LowEvent (event.Encoder ch delta) = inRange delta ≡ true
 LowEvent (event.Button b) = Unit {0}
 LowEvent event.Other = Unit {0}
 

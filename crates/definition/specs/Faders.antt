@@ -1,9 +1,9 @@
 -- Faders and encoders: a move is held until it meets the device's level, a turn adds to a sum, and the drain hands both over. Definitions only.
-use Prim.Native.Nat.{ℕ, zero, suc, _+_, _*_, _≤_}
+use Prim.Native.Nat.{ℕ, zero, suc, _+_, _*_}
 use mathlib.Core.List.{List, [], _∷_}
 use mathlib.Core.Bool.{Bool, true, false, _&&_, not}
 use mathlib.Core.Option.{Option, none, some}
-use lib.Dec.{eqb, leb}
+use lib.Dec.{leb}
 use lib.ListN.{length}
 use lib.IntN.{ℤ, pos, negsuc, _+ℤ_}
 use lib.Signed.{leZ}
@@ -15,14 +15,13 @@ use Rattle.protocol.specs.Protocol.{sentTo}
 use Rattle.lookup.specs.declared.Destination.{Destination}
 use Rattle.lookup.specs.declared.Found.{Found}
 use Rattle.lookup.specs.declared.Found.the-variants as found
-use Rattle.drivers.specs.Talk.{Talk, Got, Act, got, next, _>>=_, send}
+use Rattle.drivers.specs.Talk.{Talk, Got, Act, got, _>>=_, send}
 use Rattle.drivers.specs.declared.Level.{Level}
 use Rattle.drivers.specs.declared.Level.the-variants.{At, Unknown}
-use Rattle.session.specs.Session.{isMarked, markAt, lastMove, movedTo, placeMove, isDest, turn}
+use Rattle.session.specs.Session.{isMarked, markAt, lastMove, movedTo, placeMove, Turn, isDest, turn}
 use Rattle.session.specs.declared.Marks.{Marks}
 use Rattle.session.specs.declared.Moves.{Moves}
 use Rattle.session.specs.declared.Move.{Move}
-use Rattle.session.specs.declared.Turn.{Turn}
 use Rattle.definition.specs.Rig.{Rig, destination, encoderDest}
 use Rattle.definition.specs.Levels.{read, write}
 

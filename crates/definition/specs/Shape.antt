@@ -1,22 +1,19 @@
 -- Number 8, "session not well shaped": document 01's list, item by item. Definitions only.
 use Prim.Native.Nat.{ℕ}
 use mathlib.Core.List.{List, [], _∷_}
-use mathlib.Core.Bool.{Bool, true, false, _&&_, _||_, not, Bool·beq}
+use mathlib.Core.Bool.{Bool, _&&_, _||_, not}
 use lib.Dec.{eqb, leb, ltb}
 use lib.ListN.{take}
-use lib.Ieee.{binary64, toBits}
-use Rattle.base.specs.Range.{any, every}
+use Rattle.base.specs.Range.{every}
 use Rattle.base.specs.Keyed.{allOf, noTwice}
-use Rattle.profile.specs.Profile.{records, isKind, bankCount}
+use Rattle.profile.specs.Profile.{bankCount}
 use Rattle.lookup.specs.Lookup.{destAt, sameDest}
-use Rattle.lookup.specs.declared.Destination.{Destination}
-use Rattle.session.specs.Session.{seenLine, seenTurns, seenSilenced, targetsOf}
+use Rattle.session.specs.Session.{Turn, seenLine, seenTurns, isEncoder, seenSilenced, targetsOf}
 use Rattle.session.specs.declared.Session.{Session}
 use Rattle.session.specs.declared.Line.{Line}
 use Rattle.session.specs.declared.Move.{Move}
 use Rattle.session.specs.declared.Strip.{Strip}
 use Rattle.session.specs.declared.Strips.{Strips}
-use Rattle.session.specs.declared.Turn.{Turn}
 use Rattle.session.specs.declared.Turns.{Turns}
 use Rattle.session.specs.declared.Silenced.{Silenced}
 use Rattle.session.specs.declared.Flash.{Flash}
@@ -46,34 +43,26 @@ shapedStrips s =
     not (s .known)
     || every (leb (s .count) 8 ∷ allOf goodStrip (take (s .count) (s .list)) ∷ noTwice sameNumber (take (s .count) (s .list)) ∷ [])
 
--- ── sums: "waiting encoder destinations taken from the profile, sums as in 12" ──
+-- ── sums: "waiting encoder destinations taken from the profile, sums as in 12": a sum names a record of the profile that is an encoder's ──
 
--- the same bit for bit
-abbrev pub sameBits : Destination → Destination → Bool
-sameBits a b =
-    every
-    (eqb (a .driver) (b .driver)
-    ∷ eqb (a .target) (b .target)
-    ∷ eqb (a .label) (b .label)
-    ∷ eqb (a .group) (b .group)
-    ∷ eqb (a .mute) (b .mute)
-    ∷ Bool·beq (a .takeover) (b .takeover)
-    ∷ eqb (toBits binary64 (a .low)) (toBits binary64 (b .low))
-    ∷ eqb (toBits binary64 (a .high)) (toBits binary64 (b .high))
-    ∷ [])
-
--- an encoder's record wires it to just this destination
-unfoldable pub isWired : List ℕ → Destination → Bool
-isWired p d = any (records p) (λ k. isKind p 3 k && sameBits (destAt p k) d)
-
-abbrev pub goodTurn : List ℕ → Turn → Bool
-goodTurn p e = inRange (e .sum) && isWired p (e .dest)
+abbrev pub goodTurn : Turn → Bool
+goodTurn e = inRange (e .sum)
 
 abbrev pub sameTurn : Turn → Turn → Bool
 sameTurn a b = sameDest (a .dest) (b .dest)
 
+-- two records wire their encoders to one destination
+abbrev pub sameWire : List ℕ → ℕ → ℕ → Bool
+sameWire p j k = sameDest (destAt p j) (destAt p k)
+
 unfoldable pub shapedTurns : List ℕ → Turns → Bool
-shapedTurns p t = every (leb (t .count) 136 ∷ allOf (goodTurn p) (seenTurns t) ∷ noTwice sameTurn (seenTurns t) ∷ [])
+shapedTurns p t =
+    every
+    (leb (t .count) 136
+    ∷ allOf (isEncoder p) (take (t .count) (t .records))
+    ∷ allOf goodTurn (seenTurns p t)
+    ∷ noTwice sameTurn (seenTurns p t)
+    ∷ [])
 
 -- ── silenced levels: "256 targets", "no key twice" ──
 

@@ -1,20 +1,19 @@
 -- An event: what it does to the session, which calls and messages it makes, and how it ends. Definitions only.
 use Prim.Native.Nat.{ℕ, _+_, _/_}
-use mathlib.Core.List.{List, [], _∷_, map}
-use mathlib.Core.Bool.{Bool, true, false, _&&_, not}
-use mathlib.Core.Option.{Option, none, some}
+use mathlib.Core.List.{List, [], map}
+use mathlib.Core.Bool.{Bool, true, false, _&&_}
+use mathlib.Core.Option.{none, some}
 use lib.Dec.{eqb, ltb}
 use lib.ListN.{length, getD, set}
-use lib.IntN.{ℤ}
 use lib.Ieee.{Float}
 use Rattle.base.specs.Choice.{pick}
 use Rattle.protocol.specs.declared.Event.{Event}
 use Rattle.protocol.specs.declared.Event.the-variants as event
 use Rattle.protocol.specs.declared.Button.{Button}
 use Rattle.lookup.specs.View.{View}
-use Rattle.drivers.specs.Talk.{Stop, going, waits, declined, overrun, Talk, Got, Act, got, next, start}
+use Rattle.drivers.specs.Talk.{Stop, going, waits, declined, overrun, Got, Act, got, next, start}
 use Rattle.drivers.specs.declared.Call.{Call}
-use Rattle.session.specs.Session.{Hushed, targetsOf, seenLine, seenTurns, seenSilenced, seenStrips, noMarks, unmarkBank}
+use Rattle.session.specs.Session.{Hushed, freshSession, targetsOf, seenLine, seenTurns, seenSilenced, seenStrips, noMarks, unmarkBank}
 use Rattle.session.specs.declared.Session.{Session}
 use Rattle.session.specs.declared.Strip.{Strip}
 use Rattle.session.specs.declared.Lamps.{Lamps}
@@ -50,11 +49,15 @@ site b d a l = record { bank = b; due = d; at = a; lives = l }
 abbrev pub kept : Site → Desk → Lamps → List Hushed → List Bool → Kept
 kept w d l s o = record { site = w; desk = d; lamps = l; silenced = s; opened = o }
 
--- what is seen of the session's struct: lists without capacity
-unfoldable pub seen : Session → Kept
-seen s =
+-- what is seen of the session's struct over its profile p: lists without capacity
+unfoldable pub seen : List ℕ → Session → Kept
+seen p s =
     kept (site (s .bank) (s .livedue) (s .liveat) (map seenStrips (s .live .banks)))
-    (desk (s .marks) (s .moves) (seenLine (s .line)) (seenTurns (s .turns))) (s .lamps) (seenSilenced (s .silenced)) (s .opened)
+    (desk (s .marks) (s .moves) (seenLine (s .line)) (seenTurns p (s .turns))) (s .lamps) (seenSilenced (s .silenced)) (s .opened)
+
+-- a fresh session has no sums, so that it is seen alike over every profile
+abbrev pub freshKept : Kept
+freshKept = seen [] freshSession
 
 -- what an event leaves, drivers opened apart, and whether it called `save`
 pub record Left : Type 0 where

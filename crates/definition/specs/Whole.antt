@@ -1,7 +1,7 @@
 -- An event as the host offers it, in bytes: the numbers 1 to 10 in order, lowest first, then the event itself. Definitions only.
 use Prim.Native.Nat.{ℕ}
 use mathlib.Core.List.{List}
-use mathlib.Core.Bool.{Bool, true, false, _||_}
+use mathlib.Core.Bool.{_||_}
 use lib.Dec.{eqb, ltb}
 use Rattle.base.specs.Choice.{pick}
 use Rattle.profile.specs.Profile.{verdict}
@@ -24,6 +24,6 @@ unfoldable pub whole : List ℕ → Session → List ℕ → List ℕ → ℕ �
 whole p s event answers messages calls =
     pick (eqb (verdict p) 0)
     (pick (wellShaped p s)
-    (pick (ltb messages 306 || ltb calls 5392) (stepped (refused 9) (seen s)) (offered (readOf event) p (seen s) answers))
-    (stepped (refused 8) (seen s)))
-    (stepped (refused (verdict p)) (seen s))
+    (pick (ltb messages 306 || ltb calls 5392) (stepped (refused 9) (seen p s)) (offered (readOf event) p (seen p s) answers))
+    (stepped (refused 8) (seen p s)))
+    (stepped (refused (verdict p)) (seen p s))

@@ -117,6 +117,14 @@ abbrev pub precede : Found → Found → Found
 precede (found.To d) f = found.To d
 precede found.Nothing f = f
 
+abbrev pub orPlace : Place → Place → Place
+orPlace (At k) q = At k
+orPlace Nothing q = q
+
+-- the record of the encoder in reach: the globals' or else the bank's
+unfoldable pub encoderPlace : List ℕ → ℕ → ℕ → Place
+encoderPlace s bank number = orPlace (entry s 3 255 number) (entry s 3 bank number)
+
 -- Rust's `==` on every field, f64 by its own equality
 unfoldable pub sameDest : Destination → Destination → Bool
 sameDest a b =

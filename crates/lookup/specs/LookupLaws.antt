@@ -1,20 +1,21 @@
 -- What is known of a record that was looked up. Assumes nothing.
 use Prim.Native.Nat.{ℕ, _<_}
-use mathlib.Core.Path.{_≡_, sym, _∙_}
+use mathlib.Core.Path.{_≡_, refl, sym, _∙_}
+use mathlib.Core.Bool.{true}
 use mathlib.Core.List.{List}
-use borrow.Author.Tests.{eqb-true}
+use borrow.Author.Tests.{eqb-true, eq-eqb}
 use Rattle.base.specs.RangeLaws.{every-at}
 use Rattle.base.specs.FirstLaws.{first-at}
 use Rattle.base.specs.declared.Place.{Place}
-use Rattle.base.specs.declared.Place.the-variants.{At}
-use Rattle.profile.specs.Profile.{records, byteAt}
+use Rattle.base.specs.declared.Place.the-variants.{At, Nothing}
+use Rattle.profile.specs.Profile.{records, byteAt, isKind}
 use Rattle.lookup.specs.declared.Destination.{Destination}
 use Rattle.lookup.specs.declared.Command.{Command}
 use Rattle.lookup.specs.declared.Found.{Found}
 use Rattle.lookup.specs.declared.Found.the-variants as found
 use Rattle.lookup.specs.declared.Bound.{Bound}
 use Rattle.lookup.specs.declared.Bound.the-variants as bound
-use Rattle.lookup.specs.Lookup.{isEntry, entry, precede, before}
+use Rattle.lookup.specs.Lookup.{isEntry, entry, foundAt, controlOf, encoderOf, precede, orPlace, encoderPlace, before}
 
 -- a record that is found is in the file, and it is what was looked for
 pub record Is (s : List ℕ) (kind part number k : ℕ) : Type 0 where
@@ -50,3 +51,31 @@ runs-there r f g c e q = rw (← e, q)
 
 pub runs-elsewhere : (r f g h : Bound) → r ≡ f → r ≡ bound.Nothing → h ≡ g → h ≡ before f g
 runs-elsewhere r f g h e q p = rw (← e, q) p
+
+pub place-there : (r f g : Place) (k : ℕ) → r ≡ f → r ≡ At k → At k ≡ orPlace f g
+place-there r f g k e q = rw (← e, q)
+
+pub place-elsewhere : (r f g h : Place) → r ≡ f → r ≡ Nothing → h ≡ g → h ≡ orPlace f g
+place-elsewhere r f g h e q p = rw (← e, q) p
+
+-- ── the encoder in reach ──
+
+found-or : (s : List ℕ) (f g : Place) → foundAt s (orPlace f g) ≡ precede (foundAt s f) (foundAt s g)
+found-or s (At k) g = refl
+found-or s Nothing g = refl
+
+-- its record has its destination
+pub encoder-place-found : (s : List ℕ) (bank number : ℕ) → foundAt s (encoderPlace s bank number) ≡ precede (encoderOf s 255 number) (encoderOf s bank number)
+unfolding encoderPlace controlOf
+encoder-place-found s bank number = found-or s (entry s 3 255 number) (entry s 3 bank number)
+
+one-of : (s : List ℕ) (bank number k : ℕ) (f : Place) → f ≡ entry s 3 255 number → orPlace f (entry s 3 bank number) ≡ At k → (k < records s) × (isKind s 3 k ≡ true)
+one-of s bank number k (At j) e q =
+    let w = entry-is s 3 255 number k (sym e ∙ q) in (w .in-file, eq-eqb (byteAt s k 0) 3 (w .kind-is))
+one-of s bank number k Nothing e q =
+    let w = entry-is s 3 bank number k q in (w .in-file, eq-eqb (byteAt s k 0) 3 (w .kind-is))
+
+-- it is in the file, and an encoder's
+pub encoder-place-is : (s : List ℕ) (bank number k : ℕ) → encoderPlace s bank number ≡ At k → (k < records s) × (isKind s 3 k ≡ true)
+unfolding encoderPlace
+encoder-place-is s bank number k q = one-of s bank number k (entry s 3 255 number) refl q

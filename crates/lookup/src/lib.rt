@@ -1,12 +1,10 @@
 // Every lookup that the bridge makes in a profile. `specs/View.antt` offers them to the definition as one record.
 ghost use mathlib.Core.Path.{_≡_};
-ghost use mathlib.Core.Bool.{true};
 ghost use mathlib.Core.List.{_∷_, [], _++_};
 ghost use Prim.Native.Nat.{_+_, _<_, _≤_};
-ghost use lib.Dec.{eqb};
 ghost use lib.ListN.{length, getD};
-ghost use Rattle.profile.specs.Profile.{records, byteAt, halfAt, bankCount, verdict};
-ghost use Rattle.lookup.specs.Lookup.{positionsOf, rememberOf, isEntry, entry, ofPart, halfOf, byteOf, bankAt, nameOf, deviceOf, liveOf, recOf, selectOf, bankNamed, destAt, controlOf, faderOf, encoderOf, precede, sameDest, scenesOf, position, buttonOf, commandAt, entryAt, transportsOf, transportOf, before, ofKind, place, merged, seenEntries, seenDrivers, times, mostCommon};
+ghost use Rattle.profile.specs.Profile.{records, bankCount, verdict};
+ghost use Rattle.lookup.specs.Lookup.{positionsOf, rememberOf, isEntry, entry, ofPart, halfOf, byteOf, bankAt, nameOf, deviceOf, liveOf, recOf, selectOf, bankNamed, destAt, faderOf, encoderPlace, precede, sameDest, scenesOf, position, buttonOf, commandAt, entryAt, transportsOf, transportOf, before, ofKind, place, merged, seenEntries, seenDrivers, times, mostCommon};
 ghost use Rattle.base.specs.Keyed.{at};
 
 // The name number of what is not there.
@@ -178,7 +176,7 @@ pub fn select_is_bank(profile: &[u8], bank: u8) -> bool
 
 // ── faders and encoders ──
 
-fn destination_at(s: &[u8], k: usize) -> Destination
+pub fn destination_at(s: &[u8], k: usize) -> Destination
     requires { ⌜ k < records (now s) ⌝ }
     ensures { λ r. ⌜ r ≡ destAt (now (s .entry)) k ⌝ }
 {
@@ -202,36 +200,13 @@ fn destination_at(s: &[u8], k: usize) -> Destination
     }
 }
 
-fn control_of(s: &[u8], kind: u8, part: u8, number: u8) -> Found
-    ensures { λ r. ⌜ r ≡ controlOf (now (s .entry)) kind part number ⌝ }
-{
-    match find(s, kind, part, number) {
-        base::Place::At(k) => Found::To(destination_at(s, k)),
-        base::Place::Nothing => Found::Nothing,
-    }
-}
-
 // A fader of one bank or of the globals.
 pub fn fader(profile: &[u8], bank: u8, number: u8) -> Found
     ensures { λ r. ⌜ r ≡ faderOf (now (profile .entry)) bank number ⌝ }
 {
-    control_of(profile, 2, bank, number)
-}
-
-// An encoder of one bank or of the globals.
-pub fn encoder(profile: &[u8], bank: u8, number: u8) -> Found
-    ensures { λ r. ⌜ r ≡ encoderOf (now (profile .entry)) bank number ⌝ }
-{
-    control_of(profile, 3, bank, number)
-}
-
-// The globals' precedes the bank's.
-fn control_in_reach(s: &[u8], kind: u8, bank: u8, number: u8) -> Found
-    ensures { λ r. ⌜ r ≡ precede (controlOf (now (s .entry)) kind 255 number) (controlOf (now (s .entry)) kind bank number) ⌝ }
-{
-    match control_of(s, kind, GLOBALS, number) {
-        Found::To(d) => Found::To(d),
-        Found::Nothing => control_of(s, kind, bank, number),
+    match find(profile, 2, bank, number) {
+        base::Place::At(k) => Found::To(destination_at(profile, k)),
+        base::Place::Nothing => Found::Nothing,
     }
 }
 
@@ -239,14 +214,20 @@ fn control_in_reach(s: &[u8], kind: u8, bank: u8, number: u8) -> Found
 pub fn fader_in_reach(profile: &[u8], bank: u8, number: u8) -> Found
     ensures { λ r. ⌜ r ≡ precede (faderOf (now (profile .entry)) 255 number) (faderOf (now (profile .entry)) bank number) ⌝ }
 {
-    control_in_reach(profile, 2, bank, number)
+    match fader(profile, GLOBALS, number) {
+        Found::To(d) => Found::To(d),
+        Found::Nothing => fader(profile, bank, number),
+    }
 }
 
-// The globals' encoder or else the bank's.
-pub fn encoder_in_reach(profile: &[u8], bank: u8, number: u8) -> Found
-    ensures { λ r. ⌜ r ≡ precede (encoderOf (now (profile .entry)) 255 number) (encoderOf (now (profile .entry)) bank number) ⌝ }
+// The record of the globals' encoder or else of the bank's.
+pub fn encoder_record(profile: &[u8], bank: u8, number: u8) -> base::Place
+    ensures { λ r. ⌜ r ≡ encoderPlace (now (profile .entry)) bank number ⌝ }
 {
-    control_in_reach(profile, 3, bank, number)
+    match find(profile, 3, GLOBALS, number) {
+        base::Place::At(k) => base::Place::At(k),
+        base::Place::Nothing => find(profile, 3, bank, number),
+    }
 }
 
 // Rust's == on every field: -0.0 equals 0.0.

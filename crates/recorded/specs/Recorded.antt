@@ -1,7 +1,7 @@
 -- A recording is computed over the definition: each event ends as the Rust's did. Definitions only.
 use Prim.Native.Nat.{ℕ}
 use mathlib.Core.List.{List, [], _∷_, _++_, map}
-use mathlib.Core.Bool.{Bool, true, false, _&&_}
+use mathlib.Core.Bool.{Bool, true, _&&_}
 use lib.ListN.{length}
 use Rattle.base.specs.Range.{bit}
 use Rattle.base.specs.Same.{sameList}
@@ -56,7 +56,7 @@ recording p os = record { profile = p; offers = os }
 -- every recording ends as it was recorded
 unfoldable pub agree : List Recording → Bool
 agree [] = true
-agree (r ∷ rs) = runs (viewOf (r .profile)) (r .offers) (seen freshSession) && agree rs
+agree (r ∷ rs) = runs (viewOf (r .profile)) (r .offers) (seen (r .profile) freshSession) && agree rs
 
 -- a fresh session is well shaped under the profile of every recording
 unfoldable pub shaped : List Recording → Bool

@@ -3,18 +3,21 @@ use mathlib.Core.Path.{_≡_, refl, sym, ap, _∙_, subst}
 use mathlib.Core.Bool.{Bool, true, false, _&&_}
 use mathlib.Core.List.{List, [], _∷_, _++_, map, map-append, append-nil}
 use mathlib.Core.Option.{Option, none, some}
-use Prim.Native.Nat.{ℕ, zero, suc, _+_, _≤_, _<_, min}
+use Prim.Native.Nat.{ℕ, _+_, _≤_, _<_, min}
 use native.Mathlib.Numerals.{add-one}
 use native.Mathlib.Omega.{arith}
 use lib.Dec.{eqb, ltb, leb}
 use lib.Ieee.{Float, nan}
 use lib.ListN.{length, getD, take, set, length-append, length-take, length-set}
-use lib.Seq.{take-all, take-append-le, take-suc-set, length-take-le, getD-set-other}
+use lib.Seq.{take-all, take-append-le, take-suc-set, take-set-le, length-take-le, lt-length-set, set-getD, getD-set-same, getD-set-other}
+use lib.IntN.{ℤ, pos, _+ℤ_}
 use borrow.Author.Tests.{ltb-true, ltb-false, leb-true, leb-false}
 use Rattle.base.specs.Choice.{pick}
-use Rattle.base.specs.Keyed.{at, anyOf, change, keep}
+use Rattle.base.specs.Keyed.{at, anyOf, allOf, change, keep, beside}
+use Rattle.base.specs.BesideLaws as side
 use Rattle.base.specs.KeyedLaws as laws
-use Rattle.session.specs.Session.{Hushed, hushedAt, hushedIn, hushedUpTo, hushedLevel, hush, unhush, hasRoom, sameTarget, isTarget, otherTarget, seenStrips, stripsIf, stripsOr, isStrip, stripAt, noStrip, sameAt}
+use Rattle.lookup.specs.Lookup.{destAt}
+use Rattle.session.specs.Session.{Turn, turnAt, turnsUpTo, isEncoder, wiresTo, isDest, addTo, firstTurn, turn, RoomToTurn, Hushed, hushedAt, hushedUpTo, hushedLevel, hush, unhush, hasRoom, sameTarget, isTarget, otherTarget, seenStrips, stripsIf, stripsOr, isStrip, stripAt, noStrip, sameAt}
 use Rattle.drivers.specs.declared.Level.the-variants.{At, Unknown}
 use Rattle.session.specs.declared.Move.{Move}
 use Rattle.session.specs.declared.Strip.{Strip}
@@ -79,63 +82,29 @@ module _ {A B : Type 0} (f : A → Bool) (h : A → B) (d : A) (top : ℕ) (ts :
       go false q = rw append-nil e
 
 -- ── targets and levels, side by side ──
-pub in-length : (ts : List ℕ) (ls : List Float) → length ts ≡ length ls → length (hushedIn ts ls) ≡ length ts
-unfolding hushedIn
-in-length [] ls e = refl
-in-length (t ∷ ts) [] e = absurd (omega arith)
-in-length (t ∷ ts) (l ∷ ls) e = ap suc (in-length ts ls (omega arith))
-
-pub in-take : (n : ℕ) (ts : List ℕ) (ls : List Float) → hushedUpTo n ts ls ≡ take n (hushedIn ts ls)
-unfolding hushedIn
-in-take zero ts ls = refl
-in-take (suc n) [] ls = refl
-in-take (suc n) (t ∷ ts) [] = refl
-in-take (suc n) (t ∷ ts) (l ∷ ls) = ap (λ r. hushedAt t l ∷ r) (in-take n ts ls)
-
-pub in-at : (target : ℕ) (ts : List ℕ) (ls : List Float) → length ts ≡ length ls → at (isTarget target) (hushedIn ts ls) ≡ at (sameTarget target) ts
-unfolding hushedIn at
-in-at target [] ls e = refl
-in-at target (t ∷ ts) [] e = absurd (omega arith)
-in-at target (t ∷ ts) (l ∷ ls) e = ap (λ r. pick (eqb t target) 0 (suc r)) (in-at target ts ls (omega arith))
-
-pub in-getD : (ts : List ℕ) (ls : List Float) (i : ℕ) → length ts ≡ length ls → getD (hushedIn ts ls) i noHushed ≡ hushedAt (getD ts i 0) (getD ls i nan)
-unfolding hushedIn
-in-getD [] [] i e = refl
-in-getD [] (l ∷ ls) i e = absurd (omega arith)
-in-getD (t ∷ ts) [] i e = absurd (omega arith)
-in-getD (t ∷ ts) (l ∷ ls) zero e = refl
-in-getD (t ∷ ts) (l ∷ ls) (suc i) e = in-getD ts ls i (omega arith)
-
-pub in-set : (ts : List ℕ) (ls : List Float) (i a : ℕ) (b : Float) → hushedIn (set ts i a) (set ls i b) ≡ set (hushedIn ts ls) i (hushedAt a b)
-unfolding hushedIn
-in-set [] ls i a b = refl
-in-set (t ∷ ts) [] zero a b = refl
-in-set (t ∷ ts) [] (suc i) a b = refl
-in-set (t ∷ ts) (l ∷ ls) zero a b = refl
-in-set (t ∷ ts) (l ∷ ls) (suc i) a b = ap (λ r. hushedAt t l ∷ r) (in-set ts ls i a b)
 
 -- what a search among the first n of the targets shows of both arrays
 module _ (target : ℕ) (ts : List ℕ) (ls : List Float) (n i : ℕ) (lt : length ts ≡ 256) (ll : length ls ≡ 256) (within : n ≤ 256)
     (e : i ≡ at (sameTarget target) (take n ts)) where
   abbrev pairs : List Hushed
-  pairs = hushedIn ts ls
+  pairs = beside hushedAt ts ls
 
   pairs-long : length pairs ≡ 256
-  pairs-long = in-length ts ls (omega arith) ∙ lt
+  pairs-long = side.beside-length hushedAt ts ls (omega arith) ∙ lt
 
   same-place : i ≡ at (isTarget target) (take n pairs)
   same-place =
       let a : length (take n ts) ≡ n = length-take-le n ts (omega arith) in
       let b : length (take n ls) ≡ n = length-take-le n ls (omega arith) in
-      e ∙ sym (in-at target (take n ts) (take n ls) (omega arith)) ∙ ap (at (isTarget target)) (in-take n ts ls)
+      e ∙ sym (side.beside-at hushedAt (isTarget target) (sameTarget target) (λ x y. refl) (take n ts) (take n ls) (omega arith)) ∙ ap (at (isTarget target)) (side.beside-take hushedAt n ts ls)
 
   pub level-there : i < n → hushedLevel target (hushedUpTo n ts ls) ≡ At (getD ls i nan)
   unfolding hushedLevel
-  level-there h = rw (in-take n ts ls, laws.found (isTarget target) noHushed pairs n i same-place (omega (arith, pairs-long)) h, in-getD ts ls i (omega arith))
+  level-there h = rw (side.beside-take hushedAt n ts ls, laws.found (isTarget target) noHushed pairs n i same-place (omega (arith, pairs-long)) h, side.beside-getD hushedAt 0 nan ts ls i (omega arith))
 
   pub level-missing : n ≤ i → hushedLevel target (hushedUpTo n ts ls) ≡ Unknown
   unfolding hushedLevel
-  level-missing h = rw (in-take n ts ls, laws.not-found (isTarget target) noHushed pairs n i same-place (omega (arith, pairs-long)) h)
+  level-missing h = rw (side.beside-take hushedAt n ts ls, laws.not-found (isTarget target) noHushed pairs n i same-place (omega (arith, pairs-long)) h)
 
   -- the place that is written lies within the array
   pub place-within : hasRoom target (take n ts) ≡ true → i < 256
@@ -152,14 +121,14 @@ module _ (target : ℕ) (ts : List ℕ) (ls : List Float) (n i : ℕ) (lt : leng
   pub hushed-there : (v : Float) → i < n → hushedUpTo n (set ts i target) (set ls i v) ≡ hush target v (hushedUpTo n ts ls)
   unfolding hush
   hushed-there v h =
-      rw (in-take n (set ts i target) (set ls i v), in-set ts ls i target v, in-take n ts ls)
+      rw (side.beside-take hushedAt n (set ts i target) (set ls i v), side.beside-set hushedAt ts ls i target v, side.beside-take hushedAt n ts ls)
       (laws.change-in (isTarget target) noHushed pairs n i same-place (λ z. hushedAt target v) (hushedAt target v) (omega (arith, pairs-long)) h)
 
   pub hushed-behind : (v : Float) → n ≤ i → i < 256 → hushedUpTo (n + 1) (set ts i target) (set ls i v) ≡ hush target v (hushedUpTo n ts ls)
   unfolding hush
   hushed-behind v h m =
       let q : i ≡ n = omega (arith, laws.found-le (sameTarget target) 0 ts n i e (omega arith)) in
-      rw (q, in-take (n + 1) (set ts n target) (set ls n v), in-set ts ls n target v, in-take n ts ls)
+      rw (q, side.beside-take hushedAt (n + 1) (set ts n target) (set ls n v), side.beside-set hushedAt ts ls n target v, side.beside-take hushedAt n ts ls)
       (laws.change-out (isTarget target) noHushed pairs n i same-place (λ z. hushedAt target v) (hushedAt target v) (omega (arith, pairs-long)) h)
 
 -- one target goes: of the first j, those that stay are the first k, and what is behind is as it was
@@ -180,7 +149,7 @@ closing-none target ts ls lt ll =
       levels-were = ll;
       targets-long = lt;
       levels-long = ll;
-      so-far = rw (in-take 0 ts ls) (laws.keep-none (otherTarget target) noHushed (hushedIn ts ls));
+      so-far = rw (side.beside-take hushedAt 0 ts ls) (laws.keep-none (otherTarget target) noHushed (beside hushedAt ts ls));
       targets-left = λ i h. refl;
       levels-left = λ i h. refl;
     }
@@ -188,23 +157,23 @@ closing-none target ts ls lt ll =
 module _ (target : ℕ) (ts₀ : List ℕ) (ls₀ : List Float) (ts : List ℕ) (ls : List Float) (k j : ℕ) (s : Closing target ts₀ ls₀ ts ls k j)
     (inside : j < 256) (behind : k ≤ j) where
   abbrev was : List Hushed
-  was = hushedIn ts₀ ls₀
+  was = beside hushedAt ts₀ ls₀
 
   abbrev are : List Hushed
-  are = hushedIn ts ls
+  are = beside hushedAt ts ls
 
   was-long : length was ≡ 256
-  was-long = in-length ts₀ ls₀ (s .targets-were ∙ sym (s .levels-were)) ∙ s .targets-were
+  was-long = side.beside-length hushedAt ts₀ ls₀ (s .targets-were ∙ sym (s .levels-were)) ∙ s .targets-were
 
   are-long : length are ≡ 256
-  are-long = in-length ts ls (s .targets-long ∙ sym (s .levels-long)) ∙ s .targets-long
+  are-long = side.beside-length hushedAt ts ls (s .targets-long ∙ sym (s .levels-long)) ∙ s .targets-long
 
   kept : take k are ≡ keep (otherTarget target) (take j was)
   unfolding unhush
-  kept = sym (in-take k ts ls) ∙ s .so-far ∙ ap (keep (otherTarget target)) (in-take j ts₀ ls₀)
+  kept = sym (side.beside-take hushedAt k ts ls) ∙ s .so-far ∙ ap (keep (otherTarget target)) (side.beside-take hushedAt j ts₀ ls₀)
 
   the-next : getD was j noHushed ≡ hushedAt (getD ts j 0) (getD ls j nan)
-  the-next = rw (s .targets-left j (omega arith), s .levels-left j (omega arith)) (in-getD ts₀ ls₀ j (s .targets-were ∙ sym (s .levels-were)))
+  the-next = rw (s .targets-left j (omega arith), s .levels-left j (omega arith)) (side.beside-getD hushedAt 0 nan ts₀ ls₀ j (s .targets-were ∙ sym (s .levels-were)))
 
   pub closing-yes : eqb (getD ts j 0) target ≡ false → Closing target ts₀ ls₀ (set ts k (getD ts j 0)) (set ls k (getD ls j nan)) (k + 1) (j + 1)
   unfolding unhush
@@ -216,7 +185,7 @@ module _ (target : ℕ) (ts₀ : List ℕ) (ls₀ : List Float) (ts : List ℕ) 
         targets-long = length-set ts k (getD ts j 0) ∙ s .targets-long;
         levels-long = length-set ls k (getD ls j nan) ∙ s .levels-long;
         so-far =
-            rw (in-take (k + 1) (set ts k (getD ts j 0)) (set ls k (getD ls j nan)), in-set ts ls k (getD ts j 0) (getD ls j nan), ← the-next, in-take (j + 1) ts₀ ls₀)
+            rw (side.beside-take hushedAt (k + 1) (set ts k (getD ts j 0)) (set ls k (getD ls j nan)), side.beside-set hushedAt ts ls k (getD ts j 0) (getD ls j nan), ← the-next, side.beside-take hushedAt (j + 1) ts₀ ls₀)
             (laws.keep-yes (otherTarget target) noHushed are was k j kept (omega (arith, are-long)) (omega (arith, was-long)) o);
         targets-left = λ i h. getD-set-other ts k i (getD ts j 0) 0 (λ q. omega arith) ∙ s .targets-left i (omega arith);
         levels-left = λ i h. getD-set-other ls k i (getD ls j nan) nan (λ q. omega arith) ∙ s .levels-left i (omega arith);
@@ -232,7 +201,7 @@ module _ (target : ℕ) (ts₀ : List ℕ) (ls₀ : List Float) (ts : List ℕ) 
         targets-long = s .targets-long;
         levels-long = s .levels-long;
         so-far =
-            rw (in-take k ts ls, in-take (j + 1) ts₀ ls₀)
+            rw (side.beside-take hushedAt k ts ls, side.beside-take hushedAt (j + 1) ts₀ ls₀)
             (laws.keep-no (otherTarget target) noHushed are was k j kept (omega (arith, was-long)) o);
         targets-left = λ i h. s .targets-left i (omega arith);
         levels-left = λ i h. s .levels-left i (omega arith);
@@ -243,6 +212,55 @@ pub closing-done : (target : ℕ) (ts₀ : List ℕ) (ls₀ : List Float) (ts : 
 closing-done target ts₀ ls₀ ts ls k j s n h l =
     let q : j ≡ n = omega arith in
     subst (λ (m : ℕ). hushedUpTo k ts ls ≡ unhush target (hushedUpTo m ts₀ ls₀)) q (s .so-far)
+
+-- ── the sums, side by side with the records of their encoders ──
+
+-- what a search among the first n of the records shows of both arrays
+module _ (p ks : List ℕ) (ns : List ℤ) (n k i : ℕ) (delta : ℤ) (lk : length ks ≡ 136) (ln : length ns ≡ 136) (room : RoomToTurn p ks ns n k delta)
+    (e : i ≡ at (wiresTo p (destAt p k)) (take n ks)) where
+  abbrev sums : List Turn
+  sums = beside (turnAt p) ks ns
+
+  sums-long : length sums ≡ 136
+  sums-long = side.beside-length (turnAt p) ks ns (omega arith) ∙ lk
+
+  same-sum : i ≡ at (isDest (destAt p k)) (take n sums)
+  same-sum =
+      let a : length (take n ks) ≡ n = length-take-le n ks (omega (arith, room .count)) in
+      let b : length (take n ns) ≡ n = length-take-le n ns (omega (arith, room .count)) in
+      e
+      ∙ sym (side.beside-at (turnAt p) (isDest (destAt p k)) (wiresTo p (destAt p k)) (λ x y. refl) (take n ks) (take n ns) (omega arith))
+      ∙ ap (at (isDest (destAt p k))) (side.beside-take (turnAt p) n ks ns)
+
+  pub sum-there : i < n → turnsUpTo p n ks (set ns i (getD ns i (pos 0) +ℤ delta)) ≡ turn (destAt p k) delta (turnsUpTo p n ks ns)
+  unfolding turn
+  sum-there h =
+      let v : ℤ = getD ns i (pos 0) +ℤ delta in
+      let q : beside (turnAt p) ks (set ns i v) ≡ set sums i (addTo delta (getD sums i (turnAt p 0 (pos 0)))) =
+      ap (λ l. beside (turnAt p) l (set ns i v)) (sym (set-getD ks i 0))
+      ∙ side.beside-set (turnAt p) ks ns i (getD ks i 0) v
+      ∙ ap (λ s. set sums i (addTo delta s)) (sym (side.beside-getD (turnAt p) 0 (pos 0) ks ns i (omega arith))) in
+      rw (side.beside-take (turnAt p) n ks (set ns i v), q, side.beside-take (turnAt p) n ks ns)
+      (laws.change-in (isDest (destAt p k)) (turnAt p 0 (pos 0)) sums n i same-sum (addTo delta) (firstTurn (destAt p k) delta) (omega (arith, sums-long, room .count)) h)
+
+  -- it is not there: its place is behind the others, within the array
+  pub at-end : n ≤ i → (i ≡ n) × (n < 136)
+  at-end h = (
+    omega (arith, laws.found-le (wiresTo p (destAt p k)) 0 ks n i e (omega (arith, room .count))),
+    roomy (wiresTo p (destAt p k)) 0 ks n i 136 lk (room .count) e h (room .place),
+  )
+
+  pub sum-behind : n ≤ i → turnsUpTo p (n + 1) (set ks i k) (set ns i delta) ≡ turn (destAt p k) delta (turnsUpTo p n ks ns)
+  unfolding turn
+  sum-behind h =
+      rw (at-end h .0, side.beside-take (turnAt p) (n + 1) (set ks n k) (set ns n delta), side.beside-set (turnAt p) ks ns n k delta, side.beside-take (turnAt p) n ks ns)
+      (laws.change-out (isDest (destAt p k)) (turnAt p 0 (pos 0)) sums n i same-sum (addTo delta) (firstTurn (destAt p k) delta) (omega (arith, sums-long, at-end h .1)) h)
+
+  pub encoders-behind : n ≤ i → allOf (isEncoder p) (take (n + 1) (set ks i k)) ≡ true
+  encoders-behind h =
+      let m : n < length ks = omega (arith, at-end h .1) in
+      rw (at-end h .0, add-one)
+      (laws.every-more (isEncoder p) 0 (set ks n k) n (lt-length-set ks n k m) (rw (take-set-le n ks n k (omega arith)) (room .encoders)) (rw (getD-set-same ks n k 0 m) (room .encoder)))
 
 -- ── the strips of a bank ──
 pub is-known : (s : Strips) (l : List Strip) → seenStrips s ≡ some l → s .known ≡ true

@@ -3,7 +3,7 @@
 -- definition alike. Definitions only.
 use Prim.Native.Nat.{ℕ, zero, suc, _+_, _-_, _*_, _≤_, _<_}
 use mathlib.Core.Path.{_≡_}
-use mathlib.Core.List.{List, [], _∷_, map}
+use mathlib.Core.List.{List, [], map}
 use mathlib.Core.Bool.{Bool, true, false, _&&_, not}
 use mathlib.Core.Option.{Option, none, some}
 use lib.Dec.{eqb, leb, ltb}
@@ -11,14 +11,15 @@ use lib.ListN.{length, getD, take, set, replicate}
 use lib.IntN.{ℤ, pos, _+ℤ_}
 use mir.Syntax.{w32}
 use mir.Val.{SFits}
-use lib.Ieee.{Float, nan, binary64, ofBits}
+use lib.Ieee.{Float, nan}
 use Rattle.base.specs.Choice.{pick}
 use Rattle.base.specs.Range.{all}
 use Rattle.base.specs.declared.Place.{Place}
 use Rattle.base.specs.declared.Place.the-variants as place
-use Rattle.base.specs.Keyed.{find, anyOf, change, keep}
+use Rattle.base.specs.Keyed.{find, anyOf, allOf, change, keep, beside}
 use Rattle.float.specs.Leaf.{f0, f1}
-use Rattle.lookup.specs.Lookup.{sameDest}
+use Rattle.profile.specs.Profile.{records, isKind}
+use Rattle.lookup.specs.Lookup.{destAt, sameDest}
 use Rattle.lookup.specs.declared.Destination.{Destination}
 use Rattle.lookup.specs.declared.Found.{Found}
 use Rattle.lookup.specs.declared.Found.the-variants as found
@@ -32,7 +33,6 @@ use Rattle.session.specs.declared.Marks.{Marks}
 use Rattle.session.specs.declared.Moves.{Moves}
 use Rattle.session.specs.declared.Move.{Move}
 use Rattle.session.specs.declared.Line.{Line}
-use Rattle.session.specs.declared.Turn.{Turn}
 use Rattle.session.specs.declared.Turns.{Turns}
 use Rattle.session.specs.declared.Silenced.{Silenced}
 use Rattle.session.specs.declared.Flash.{Flash}
@@ -92,8 +92,32 @@ hasPlace ch l = pick (anyOf (isChannel ch) l) true (ltb (length l) 16)
 
 -- ── the encoders' sums: `nudges` ──
 
-abbrev pub seenTurns : Turns → List Turn
-seenTurns t = take (t .count) (t .list)
+-- a sum that waits, and the destination to which its encoder is wired
+pub record Turn : Type 0 where
+  pub dest : Destination
+  pub sum : ℤ
+
+abbrev pub firstTurn : Destination → ℤ → Turn
+firstTurn d n = record { dest = d; sum = n }
+
+-- the session names the destination by the profile's record that wires an encoder to it
+abbrev pub turnAt : List ℕ → ℕ → ℤ → Turn
+turnAt p k n = firstTurn (destAt p k) n
+
+-- the first n of both arrays
+abbrev pub turnsUpTo : List ℕ → ℕ → List ℕ → List ℤ → List Turn
+turnsUpTo p n ks ns = beside (turnAt p) (take n ks) (take n ns)
+
+abbrev pub seenTurns : List ℕ → Turns → List Turn
+seenTurns p t = turnsUpTo p (t .count) (t .records) (t .sums)
+
+-- record k of the profile is an encoder's
+abbrev pub isEncoder : List ℕ → ℕ → Bool
+isEncoder p k = ltb k (records p) && isKind p 3 k
+
+-- it wires its encoder to this destination
+abbrev pub wiresTo : List ℕ → Destination → ℕ → Bool
+wiresTo p d k = sameDest (destAt p k) d
 
 -- the same destination, by Rust's ==; the one first turned stays in the list
 abbrev pub isDest : Destination → Turn → Bool
@@ -102,21 +126,17 @@ isDest d e = sameDest (e .dest) d
 abbrev pub addTo : ℤ → Turn → Turn
 addTo n e = record { dest = e .dest; sum = e .sum +ℤ n }
 
-abbrev pub firstTurn : Destination → ℤ → Turn
-firstTurn d n = record { dest = d; sum = n }
-
-abbrev pub noTurn : Turn
-noTurn = record { dest = record { driver = 0; target = 0; label = 0; group = 0; mute = 0; takeover = false; low = nan; high = nan }; sum = pos 0 }
-
 -- "A turn adds to its destination's sum"
 unfoldable pub turn : Destination → ℤ → List Turn → List Turn
 turn d n l = change (isDest d) (addTo n) (firstTurn d n) l
 
--- the sums are within their array, the destination has a place there, and no sum overflows by the turn
-pub record RoomToTurn (turns : Turns) (d : Destination) (n : ℤ) : Type 0 where
-  pub count : turns .count ≤ 136
-  pub place : pick (anyOf (isDest d) (seenTurns turns)) true (ltb (turns .count) 136) ≡ true
-  pub sums : (i : ℕ) → i < turns .count → SFits w32 (getD (turns .list) i noTurn .sum +ℤ n)
+-- the first n sums are within their array and of encoders, as is the one of record k, which has a place there; and no sum overflows by the turn
+pub record RoomToTurn (p ks : List ℕ) (ns : List ℤ) (n k : ℕ) (delta : ℤ) : Type 0 where
+  pub count : n ≤ 136
+  pub encoders : allOf (isEncoder p) (take n ks) ≡ true
+  pub encoder : isEncoder p k ≡ true
+  pub place : pick (anyOf (wiresTo p (destAt p k)) (take n ks)) true (ltb n 136) ≡ true
+  pub sums : (i : ℕ) → i < n → SFits w32 (getD ns i (pos 0) +ℤ delta)
 
 -- ── silenced levels: `value_before`, kept by target alone ──
 
@@ -128,15 +148,9 @@ pub record Hushed : Type 0 where
 abbrev pub hushedAt : ℕ → Float → Hushed
 hushedAt target v = record { target = target; level = v }
 
--- targets and levels, side by side
-unfoldable pub hushedIn : List ℕ → List Float → List Hushed
-hushedIn [] ls = []
-hushedIn (t ∷ ts) [] = []
-hushedIn (t ∷ ts) (l ∷ ls) = hushedAt t l ∷ hushedIn ts ls
-
 -- the first n of both arrays
 abbrev pub hushedUpTo : ℕ → List ℕ → List Float → List Hushed
-hushedUpTo n ts ls = hushedIn (take n ts) (take n ls)
+hushedUpTo n ts ls = beside hushedAt (take n ts) (take n ls)
 
 abbrev pub seenSilenced : Silenced → List Hushed
 seenSilenced s = hushedUpTo (s .count) (s .targets) (s .levels)
@@ -319,9 +333,6 @@ noneLit =
 
 -- ── a fresh session: "what `Bridge::new` makes, no driver opened" ──
 
-abbrev pub noDest : Destination
-noDest = record { driver = 0; target = 0; label = 0; group = 0; mute = 0; takeover = false; low = f0; high = f0 }
-
 unfoldable pub freshSession : Session
 freshSession =
     record {
@@ -332,7 +343,7 @@ freshSession =
       marks = record { on = replicate 256 false };
       moves = record { known = replicate 256 false; level = replicate 256 f0 };
       line = record { list = replicate 16 (moveOf 0 f0); count = 0 };
-      turns = record { list = replicate 136 (firstTurn noDest (pos 0)); count = 0 };
+      turns = record { records = replicate 136 0; sums = replicate 136 (pos 0); count = 0 };
       lamps = lampsOf 0 0 (replicate 16 false) (replicate 16 false) (replicate 16 0) (record { on = false; start = f0; row = 0; base = 0; column = 0; sent = 0 });
       silenced = record { targets = replicate 256 0; levels = replicate 256 f0; count = 0 };
       opened = replicate 16 false;

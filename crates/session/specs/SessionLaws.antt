@@ -1,26 +1,27 @@
 -- Laws of the session: no channel, target or destination waits twice, whatever is done to its list, and a line of channels below 16 has a place for
 -- every channel. A driver's list without a number twice has at most eight faders on the surface. Assumes nothing.
 use Prim.Native.Nat.{ℕ, _-_, _≤_, _<_}
-use mathlib.Core.Path.{_≡_, refl, _∙_}
-use mathlib.Core.Bool.{Bool, true, false, _&&_}
+use mathlib.Core.Path.{_≡_, refl, sym, _∙_}
+use mathlib.Core.Bool.{Bool, true, false, true≢false, _&&_}
 use mathlib.Core.List.{List, [], _∷_, map}
 use native.Mathlib.Omega.{arith}
 use lib.Dec.{eqb, leb, ltb}
-use lib.ListN.{length, length-map}
+use lib.ListN.{length, getD, take, length-map}
 use lib.Seq.{take-all}
 use lib.IntN.{ℤ}
 use lib.Ieee.{Float, nan}
-use borrow.Author.Tests.{lt-ltb, leb-true, ne-eqb, eqb-false}
+use borrow.Author.Tests.{lt-ltb, ltb-true, leb-true, ne-eqb, eqb-false}
 use Rattle.base.specs.Choice.{pick}
 use Rattle.base.specs.Keyed.{anyOf, allOf, change, keep, noTwice}
+use Rattle.base.specs.KeyedLaws.{every-stop}
 use Rattle.base.specs.RangeLaws.{and-left, and-right}
 use Rattle.base.specs.Pigeon.{pigeon, has-room-for, every-change, once-change, left-of, right-of, first-no, rest-no, no-left, no-right}
+use Rattle.profile.specs.Profile.{records, isKind}
 use Rattle.lookup.specs.Lookup.{sameDest}
 use Rattle.lookup.specs.declared.Destination.{Destination}
-use Rattle.session.specs.Session.{moveOf, placeMove, hasPlace, isDest, addTo, firstTurn, turn, Hushed, hushedAt, hush, otherTarget, unhush, onSurface, stripOf, stripsOf}
+use Rattle.session.specs.Session.{moveOf, placeMove, hasPlace, Turn, isEncoder, isDest, addTo, firstTurn, turn, Hushed, hushedAt, hush, otherTarget, unhush, onSurface, stripOf, stripsOf}
 use Rattle.drivers.specs.declared.LiveFader.{LiveFader}
 use Rattle.session.specs.declared.Move.{Move}
-use Rattle.session.specs.declared.Turn.{Turn}
 use Rattle.session.specs.declared.Strip.{Strip}
 
 -- ── any list ──
@@ -172,6 +173,17 @@ sameTurn a b = sameDest (a .dest) (b .dest)
 pub turn-once : (l : List Turn) (d : Destination) (n : ℤ) → noTwice sameTurn l ≡ true → noTwice sameTurn (turn d n l) ≡ true
 unfolding turn
 turn-once l d n e = same-change sameTurn (isDest d) (addTo n) (firstTurn d n) (λ x. refl) (λ x z. refl) (λ x z. refl) l e
+
+-- of the first n records, which are encoders', each is in the file
+pub encoder-in-file : (p ks : List ℕ) (n i : ℕ) → n ≤ length ks → i < n → allOf (isEncoder p) (take n ks) ≡ true → getD ks i 0 < records p
+encoder-in-file p ks n i l h e = go (isEncoder p k) refl
+  where
+    k : ℕ
+    k = getD ks i 0
+
+    go : (b : Bool) → isEncoder p k ≡ b → k < records p
+    go true q = ltb-true k (records p) (and-left (ltb k (records p)) (isKind p 3 k) q)
+    go false q = absurd (true≢false (sym e ∙ every-stop (isEncoder p) 0 ks i n h l q))
 
 -- ── live lists ──
 

@@ -3,21 +3,19 @@ use crate::Line;
 use crate::Marks;
 use crate::Move;
 use crate::Moves;
-use crate::Turn;
 use crate::Turns;
 use drivers::Level;
 use lookup::Destination;
 ghost use mathlib.Core.Path.{_≡_};
 ghost use mathlib.Core.Bool.{true, false};
 ghost use mathlib.Core.List.{[]};
-ghost use Prim.Native.Nat.{ℕ, _+_, _*_, _≤_, _<_};
-ghost use lib.ListN.{getD, replicate};
-ghost use lib.IntN.{pos, _+ℤ_};
-ghost use mir.Syntax.{w32};
-ghost use mir.Val.{SFits};
-ghost use Rattle.base.specs.Keyed.{at};
+ghost use Prim.Native.Nat.{_+_, _*_, _≤_, _<_};
+ghost use lib.ListN.{replicate, take, length};
+ghost use lib.IntN.{pos};
+ghost use Rattle.base.specs.Keyed.{at, allOf};
+ghost use Rattle.lookup.specs.Lookup.{destAt};
 ghost use Rattle.float.specs.Leaf.{f0};
-ghost use Rattle.session.specs.Session.{isMarked, markAt, noMarks, unmarkBank, lastMove, movedTo, seenLine, isChannel, moveOf, placeMove, hasPlace, seenTurns, isDest, addTo, firstTurn, turn, noDest, RoomToTurn};
+ghost use Rattle.session.specs.Session.{isMarked, markAt, noMarks, unmarkBank, lastMove, movedTo, seenLine, isChannel, moveOf, placeMove, hasPlace, isEncoder, wiresTo, turnsUpTo, turn, RoomToTurn};
 
 // ── marks ──
 
@@ -106,12 +104,11 @@ pub fn no_line() -> Line
     }
 }
 
-// The place of the channel's move, or the count.
-pub fn find_move(line: Line, channel: u8) -> usize
-    requires { ⌜ line .count ≤ 16 ⌝ }
-    ensures { λ r. ⌜ r ≡ at (isChannel channel) (seenLine line) ⌝ }
+// The place of the channel's move among the first n, or n.
+pub fn find_move(line: Line, n: usize, channel: u8) -> usize
+    requires { ⌜ n ≤ 16 ⌝ }
+    ensures { λ r. ⌜ r ≡ at (isChannel channel) (take n (line .list)) ⌝ }
 {
-    let n = line.count;
     let mut i: usize = 0;
     while i < n {
         let m = line.list[i];
@@ -131,7 +128,7 @@ pub fn place_move(line: Line, channel: u8, level: f64) -> Line
     ensures { λ r. ⌜ r .count ≤ 16 ⌝ }
 {
     let n = line.count;
-    let i = find_move(line, channel);
+    let i = find_move(line, n, channel);
     let m = Move {
         channel: channel,
         level: level,
@@ -155,38 +152,27 @@ pub fn emptied_line(line: Line) -> Line
     t
 }
 
-// ── the sums ──
+// ── the sums: the first n of two arrays, which are lent. A destination is named by the profile's record of an encoder that is wired to it ──
 
 pub fn no_turns() -> Turns
-    ensures { λ r. ⌜ r ≡ record { list = replicate 136 (firstTurn noDest (pos 0)); count = 0 } ⌝ }
+    ensures { λ r. ⌜ r ≡ record { records = replicate 136 0; sums = replicate 136 (pos 0); count = 0 } ⌝ }
 {
-    let d = Destination {
-        driver: 0,
-        target: 0,
-        label: 0,
-        group: 0,
-        mute: 0,
-        takeover: false,
-        low: 0.0,
-        high: 0.0,
-    };
-    let t = Turn { dest: d, sum: 0 };
     Turns {
-        list: [t; 136],
+        records: [0; 136],
+        sums: [0; 136],
         count: 0,
     }
 }
 
-// The place of the destination's sum, or the count.
-pub fn find_turn(turns: Turns, dest: Destination) -> usize
-    requires { ⌜ turns .count ≤ 136 ⌝ }
-    ensures { λ r. ⌜ r ≡ at (isDest dest) (seenTurns turns) ⌝ }
+// The place of the destination's sum among the first n, or n.
+fn find_in(profile: &[u8], records: &[u16], n: usize, dest: Destination) -> usize
+    requires { ⌜ n ≤ length (now records) ⌝ }
+    requires { ⌜ allOf (isEncoder (now profile)) (take n (now records)) ≡ true ⌝ }
+    ensures { λ r. ⌜ r ≡ at (wiresTo (now (profile .entry)) dest) (take n (now (records .entry))) ⌝ }
 {
-    let n = turns.count;
     let mut i: usize = 0;
     while i < n {
-        let e = turns.list[i];
-        let d = e.dest;
+        let d = lookup::destination_at(profile, records[i] as usize);
         if lookup::same(d, dest) {
             return i;
         }
@@ -195,48 +181,43 @@ pub fn find_turn(turns: Turns, dest: Destination) -> usize
     i
 }
 
-fn add_to(e: Turn, delta: i32) -> Turn
-    requires { ⌜ SFits w32 (e .sum +ℤ delta) ⌝ }
-    ensures { λ r. ⌜ r ≡ addTo delta e ⌝ }
+pub fn find_turn(profile: &[u8], records: &[u16; 136], n: usize, dest: Destination) -> usize
+    requires { ⌜ n ≤ 136 ⌝ }
+    requires { ⌜ allOf (isEncoder (now profile)) (take n (now records)) ≡ true ⌝ }
+    ensures { λ r. ⌜ r ≡ at (wiresTo (now (profile .entry)) dest) (take n (now (records .entry))) ⌝ }
 {
-    let d = e.dest;
-    let s = e.sum + delta;
-    Turn { dest: d, sum: s }
+    find_in(profile, records, n, dest)
 }
 
-fn first_turn(dest: Destination, delta: i32) -> Turn
-    ensures { λ r. ⌜ r ≡ firstTurn dest delta ⌝ }
+// A turn of record k's encoder adds to its destination's sum; the first comes behind. How many sums there are then.
+pub fn turned(
+    profile: &[u8],
+    records: &mut [u16; 136],
+    sums: &mut [i32; 136],
+    n: usize,
+    k: u16,
+    delta: i32,
+) -> usize
+    requires { ⌜ RoomToTurn (now profile) (now records) (now sums) n k delta ⌝ }
+    ensures { λ r. ⌜ turnsUpTo (now (profile .entry)) r (now (records .exit)) (now (sums .exit)) ≡ turn (destAt (now (profile .entry)) k) delta (turnsUpTo (now (profile .entry)) n (now (records .entry)) (now (sums .entry))) ⌝ }
+    ensures { λ r. ⌜ allOf (isEncoder (now (profile .entry))) (take r (now (records .exit))) ≡ true ⌝ }
+    ensures { λ r. ⌜ r ≤ 136 ⌝ }
 {
-    Turn {
-        dest: dest,
-        sum: delta,
-    }
-}
-
-// A turn adds to its destination's sum; the first comes behind. Every sum that waits has room for the turn, and there is a place for one more.
-pub fn turned(turns: Turns, dest: Destination, delta: i32) -> Turns
-    requires { ⌜ RoomToTurn turns dest delta ⌝ }
-    ensures { λ r. ⌜ seenTurns r ≡ turn dest delta (seenTurns turns) ⌝ }
-    ensures { λ r. ⌜ r .count ≤ 136 ⌝ }
-{
-    let n = turns.count;
-    let i = find_turn(turns, dest);
-    let mut t = turns;
+    let ks: &mut [u16] = records;
+    let ns: &mut [i32] = sums;
+    let d = lookup::destination_at(profile, k as usize);
+    let i = find_in(profile, ks, n, d);
     if i < n {
-        let e = t.list[i];
-        let f = add_to(e, delta);
-        t.list[i] = f;
-        return t;
+        ns[i] = ns[i] + delta;
+        return n;
     }
-    let g = first_turn(dest, delta);
-    t.list[n] = g;
-    t.count = n + 1;
-    t
+    ks[i] = k;
+    ns[i] = delta;
+    n + 1
 }
 
 pub fn emptied_turns(turns: Turns) -> Turns
-    ensures { λ r. ⌜ seenTurns r ≡ [] ⌝ }
-    ensures { λ r. ⌜ r .count ≤ 136 ⌝ }
+    ensures { λ r. ⌜ r .count ≡ 0 ⌝ }
 {
     let mut t = turns;
     t.count = 0;

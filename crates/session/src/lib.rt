@@ -25,7 +25,6 @@ pub use faders::strip_destination;
 pub use faders::strip_found;
 pub use faders::strips_at;
 pub use faders::strips_for;
-use lookup::Destination;
 pub use muting::find_target;
 pub use muting::hush;
 pub use muting::hushed_level;
@@ -90,14 +89,10 @@ pub struct Line {
     pub count: usize,
 }
 
-// The detents of an encoder's destination that wait.
-pub struct Turn {
-    pub dest: Destination,
-    pub sum: i32,
-}
-
+// The encoders' detents that wait: the sums by the first turn, side by side with the profile's records of their encoders.
 pub struct Turns {
-    pub list: [Turn; 136],
+    pub records: [u16; 136],
+    pub sums: [i32; 136],
     pub count: usize,
 }
 

@@ -6,10 +6,18 @@ use Prim.Native.Nat.{ℕ, zero, suc, _≤_}
 use native.Mathlib.Omega.{arith}
 use lib.Ieee.{Float, nan}
 use lib.ListN.{length, take}
-use Rattle.base.specs.Range.{any, every}
-use Rattle.session.specs.Session.{hushedIn, hushedUpTo, targetsOf}
+use lib.Seq.{length-take-le}
+use borrow.Author.Tests.{le-leb}
+use Rattle.base.specs.Range.{every}
+use Rattle.base.specs.Keyed.{allOf, noTwice, beside}
+use Rattle.base.specs.Pigeon.{left-of, right-of}
+use Rattle.base.specs.BesideLaws.{beside-all, beside-once}
+use Rattle.session.specs.Session.{turnAt, isEncoder, hushedUpTo, targetsOf}
 use Rattle.session.specs.declared.Move.{Move}
 use Rattle.session.specs.declared.Strips.{Strips}
+use Rattle.session.specs.declared.Turns.{Turns}
+use Rattle.definition.specs.Faders.{inRange}
+use Rattle.definition.specs.Shape.{goodTurn, sameTurn, sameWire, shapedTurns}
 
 -- what stands past an array's end
 abbrev pub noMove : Move
@@ -22,13 +30,20 @@ emptyStrips = record { known = false; list = []; count = 0 }
 pub done : {A : Type 0} (f : List A → Bool) (xs : List A) (i n : ℕ) → i ≤ n → n ≤ i → f (take i xs) ≡ true → true ≡ f (take n xs)
 done f xs i n h l e = let q : i ≡ n = omega arith in subst (λ (m : ℕ). true ≡ f (take m xs)) q (sym e)
 
--- the same of a question that was true of none
-pub none-done : (p : ℕ → Bool) (i n : ℕ) → i ≤ n → n ≤ i → any i p ≡ false → false ≡ any n p
-none-done p i n h l e = let q : i ≡ n = omega arith in subst (λ (m : ℕ). false ≡ any m p) q (sym e)
+-- of the first n records, which are encoders', the first i are so
+pub first-encoders : (p ks : List ℕ) (i n : ℕ) → i ≤ n → allOf (isEncoder p) (take n ks) ≡ true → allOf (isEncoder p) (take i ks) ≡ true
+unfolding allOf
+first-encoders p [] zero n h e = refl
+first-encoders p [] (suc i) n h e = refl
+first-encoders p (k ∷ ks) zero n h e = refl
+first-encoders p (k ∷ ks) (suc i) zero h e = absurd (omega arith)
+first-encoders p (k ∷ ks) (suc i) (suc n) h e =
+    rw (left-of (isEncoder p k) (allOf (isEncoder p) (take n ks)) e)
+    (first-encoders p ks i n (omega arith) (right-of (isEncoder p k) (allOf (isEncoder p) (take n ks)) e))
 
 -- targets and levels side by side, and of them the targets
 pub targets-seen : (n : ℕ) (ts : List ℕ) (ls : List Float) → length ts ≡ length ls → targetsOf (hushedUpTo n ts ls) ≡ take n ts
-unfolding hushedIn
+unfolding beside
 targets-seen zero ts ls e = refl
 targets-seen (suc n) [] ls e = refl
 targets-seen (suc n) (t ∷ ts) [] e = absurd (omega arith)
@@ -38,3 +53,22 @@ targets-seen (suc n) (t ∷ ts) (l ∷ ls) e = ap (λ r. t ∷ r) (targets-seen 
 pub three : (a b c x y : Bool) → a ≡ true → x ≡ b → y ≡ c → (x && y) ≡ every (a ∷ b ∷ c ∷ [])
 unfolding every
 three a b c x y h e f = rw (h, e, f)
+
+-- the sums, of which the code tests the numbers by themselves and the records by themselves
+pub sums-tested : (p : List ℕ) (t : Turns) (x y : Bool) → length (t .records) ≡ 136 → length (t .sums) ≡ 136 → t .count ≤ 136 →
+    allOf (isEncoder p) (take (t .count) (t .records)) ≡ true → x ≡ allOf inRange (take (t .count) (t .sums)) →
+    y ≡ noTwice (sameWire p) (take (t .count) (t .records)) → (x && y) ≡ shapedTurns p t
+unfolding shapedTurns every
+sums-tested p t x y lk ln h e f g =
+    let ks = take (t .count) (t .records) in
+    let ns = take (t .count) (t .sums) in
+    let a : length ks ≡ t .count = length-take-le (t .count) (t .records) (omega arith) in
+    let b : length ns ≡ t .count = length-take-le (t .count) (t .sums) (omega arith) in
+    rw (
+      le-leb (t .count) 136 h,
+      e,
+      beside-all (turnAt p) goodTurn inRange (λ k n. refl) ks ns (omega arith),
+      beside-once (turnAt p) sameTurn (sameWire p) (λ j k m n. refl) ks ns (omega arith),
+      f,
+      g,
+    )

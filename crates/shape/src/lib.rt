@@ -1,26 +1,21 @@
 // Number 8: whether a session is well shaped. The tests that no key is there twice compare each pair: at most 120 pairs of channels, 28 of live numbers in a
 // bank, 9,180 of destinations and 32,640 of targets, where the lists are full.
-use lookup::Destination;
 use session::Flash;
 use session::Line;
 use session::Live;
 use session::Session;
 use session::Silenced;
 use session::Strips;
-use session::Turn;
 use session::Turns;
 ghost use mathlib.Core.Path.{_≡_};
-ghost use mathlib.Core.Bool.{_&&_};
-ghost use Prim.Native.Nat.{_≤_, _<_};
+ghost use mathlib.Core.Bool.{true};
+ghost use Prim.Native.Nat.{_≤_};
 ghost use lib.Dec.{eqb};
 ghost use lib.ListN.{take};
-ghost use lib.Ieee.{binary64, toBits};
 ghost use Rattle.base.specs.Keyed.{allOf, noTwice};
-ghost use Rattle.profile.specs.Profile.{records, isKind};
-ghost use Rattle.lookup.specs.Lookup.{destAt};
-ghost use Rattle.session.specs.Session.{seenLine, seenTurns};
+ghost use Rattle.session.specs.Session.{seenLine, isEncoder};
 ghost use Rattle.definition.specs.Faders.{inRange};
-ghost use Rattle.definition.specs.Shape.{lowChannel, sameChannel, shapedLine, goodStrip, sameNumber, shapedStrips, sameBits, isWired, goodTurn, sameTurn, shapedTurns, shapedSilenced, shapedFlash, wellShaped};
+ghost use Rattle.definition.specs.Shape.{lowChannel, sameChannel, shapedLine, goodStrip, sameNumber, shapedStrips, sameWire, shapedTurns, shapedSilenced, shapedFlash, wellShaped};
 
 // ── the line ──
 
@@ -48,9 +43,7 @@ fn no_channel_twice(line: Line) -> bool
     let mut i: usize = 0;
     while i < n {
         let m = line.list[i];
-        let mut head = line;
-        head.count = i;
-        if session::find_move(head, m.channel) < i {
+        if session::find_move(line, i, m.channel) < i {
             return false;
         }
         i += 1;
@@ -131,55 +124,30 @@ fn shaped_live(live: Live) -> bool
 
 // ── the sums ──
 
-// Both are written with one bit pattern.
-fn same_pattern(a: f64, b: f64) -> bool
-    ensures { λ r. ⌜ r ≡ eqb (toBits binary64 a) (toBits binary64 b) ⌝ }
+// Record k is there, and an encoder's.
+fn is_encoder(profile: &[u8], k: u16) -> bool
+    ensures { λ r. ⌜ r ≡ isEncoder (now (profile .entry)) k ⌝ }
 {
-    float::to_bits(a) == float::to_bits(b)
-}
-
-// The destination of record k is just this one, bit for bit.
-fn same_bits(profile: &[u8], k: usize, dest: Destination) -> bool
-    requires { ⌜ k < records (now profile) ⌝ }
-    ensures { λ r. ⌜ r ≡ sameBits (destAt (now (profile .entry)) k) dest ⌝ }
-{
-    (profile::view::byte(profile, k, 4) == dest.driver)
-        & ((profile::view::half(profile, k, 6) == dest.target)
-            & ((profile::view::half(profile, k, 8) == dest.label)
-                & ((profile::view::half(profile, k, 10) == dest.group)
-                    & ((profile::view::half(profile, k, 12) == dest.mute)
-                        & (((profile::view::byte(profile, k, 3) == 1) == dest.takeover)
-                            & (same_pattern(profile::view::double(profile, k, 16), dest.low)
-                                & same_pattern(
-                                    profile::view::double(profile, k, 24),
-                                    dest.high,
-                                )))))))
-}
-
-// Record k is an encoder's, and wires it to just this destination.
-fn wires(profile: &[u8], k: usize, dest: Destination) -> bool
-    requires { ⌜ k < records (now profile) ⌝ }
-    ensures { λ r. ⌜ r ≡ (isKind (now (profile .entry)) 3 k && sameBits (destAt (now (profile .entry)) k) dest) ⌝ }
-{
-    if profile::view::byte(profile, k, 0) != 3 {
+    let at = k as usize;
+    if profile.len() / 32 <= at {
         return false;
     }
-    same_bits(profile, k, dest)
+    profile::view::byte(profile, at, 0) == 3
 }
 
-// Some record of the profile does so.
-fn is_wired(profile: &[u8], dest: Destination) -> bool
-    ensures { λ r. ⌜ r ≡ isWired (now (profile .entry)) dest ⌝ }
+fn all_encoders(profile: &[u8], records: &[u16; 136], n: usize) -> bool
+    requires { ⌜ n ≤ 136 ⌝ }
+    ensures { λ r. ⌜ r ≡ allOf (isEncoder (now (profile .entry))) (take n (now (records .entry))) ⌝ }
 {
-    let n = profile.len() / 32;
-    let mut k: usize = 0;
-    while k < n {
-        if wires(profile, k, dest) {
-            return true;
+    let ks: &[u16] = records;
+    let mut i: usize = 0;
+    while i < n {
+        if !is_encoder(profile, ks[i]) {
+            return false;
         }
-        k += 1;
+        i += 1;
     }
-    false
+    true
 }
 
 fn in_range(sum: i32) -> bool
@@ -188,22 +156,14 @@ fn in_range(sum: i32) -> bool
     (-1000000 <= sum) & (sum <= 1000000)
 }
 
-fn good_turn(profile: &[u8], e: Turn) -> bool
-    ensures { λ r. ⌜ r ≡ goodTurn (now (profile .entry)) e ⌝ }
+fn sums_in_range(sums: &[i32; 136], n: usize) -> bool
+    requires { ⌜ n ≤ 136 ⌝ }
+    ensures { λ r. ⌜ r ≡ allOf inRange (take n (now (sums .entry))) ⌝ }
 {
-    let d = e.dest;
-    in_range(e.sum) & is_wired(profile, d)
-}
-
-fn good_turns(profile: &[u8], turns: Turns) -> bool
-    requires { ⌜ turns .count ≤ 136 ⌝ }
-    ensures { λ r. ⌜ r ≡ allOf (goodTurn (now (profile .entry))) (seenTurns turns) ⌝ }
-{
-    let n = turns.count;
+    let ns: &[i32] = sums;
     let mut i: usize = 0;
     while i < n {
-        let e = turns.list[i];
-        if !good_turn(profile, e) {
+        if !in_range(ns[i]) {
             return false;
         }
         i += 1;
@@ -211,18 +171,16 @@ fn good_turns(profile: &[u8], turns: Turns) -> bool
     true
 }
 
-fn no_destination_twice(turns: Turns) -> bool
-    requires { ⌜ turns .count ≤ 136 ⌝ }
-    ensures { λ r. ⌜ r ≡ noTwice sameTurn (seenTurns turns) ⌝ }
+fn no_destination_twice(profile: &[u8], records: &[u16; 136], n: usize) -> bool
+    requires { ⌜ n ≤ 136 ⌝ }
+    requires { ⌜ allOf (isEncoder (now profile)) (take n (now records)) ≡ true ⌝ }
+    ensures { λ r. ⌜ r ≡ noTwice (sameWire (now (profile .entry))) (take n (now (records .entry))) ⌝ }
 {
-    let n = turns.count;
+    let ks: &[u16] = records;
     let mut i: usize = 0;
     while i < n {
-        let e = turns.list[i];
-        let d = e.dest;
-        let mut head = turns;
-        head.count = i;
-        if session::find_turn(head, d) < i {
+        let d = lookup::destination_at(profile, ks[i] as usize);
+        if session::find_turn(profile, records, i, d) < i {
             return false;
         }
         i += 1;
@@ -233,10 +191,16 @@ fn no_destination_twice(turns: Turns) -> bool
 fn shaped_turns(profile: &[u8], turns: Turns) -> bool
     ensures { λ r. ⌜ r ≡ shapedTurns (now (profile .entry)) turns ⌝ }
 {
-    if 136 < turns.count {
+    let n = turns.count;
+    if 136 < n {
         return false;
     }
-    good_turns(profile, turns) & no_destination_twice(turns)
+    let records = turns.records;
+    if !all_encoders(profile, &records, n) {
+        return false;
+    }
+    let sums = turns.sums;
+    sums_in_range(&sums, n) & no_destination_twice(profile, &records, n)
 }
 
 // ── silenced levels ──

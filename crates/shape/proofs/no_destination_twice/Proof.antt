@@ -1,44 +1,61 @@
-use mathlib.Core.Path.{_≡_, sym}
+use mathlib.Core.Path.{_≡_, sym, ap, _∙_}
 use mathlib.Core.Bool.{true}
 use Prim.Native.Nat.{_-_, _≤_}
 use native.Mathlib.Omega.{arith}
 use native.Mathlib.Numerals.{add-one}
 use lib.ListN.{length, take}
-use Rattle.base.specs.Keyed.{noTwice}
+use Rattle.base.specs.Keyed.{at, noTwice}
 use Rattle.base.specs.KeyedLaws as laws
-use Rattle.session.specs.Session.{noTurn}
-use Rattle.definition.specs.Shape.{sameTurn}
-use Rattle.shape.proofs.Laws.{done}
+use Rattle.session.specs.Session.{wiresTo}
+use Rattle.session.specs.SessionLaws.{encoder-in-file}
+use Rattle.definition.specs.Shape.{sameWire}
+use Rattle.shape.proofs.Laws.{done, first-encoders}
 use borrow.Author.Needs.{needs}
 use Rattle.shape.proofs.no_destination_twice.Statement.{statement}
 use Rattle.shape.proofs.no_destination_twice.Tie as tie
 
 abbrev Inv-loop : tie.InvT-loop
-Inv-loop turns n i₀ i = (i ≤ n) × (noTwice sameTurn (take i (turns .list)) ≡ true)
+Inv-loop profile records n ks i₀ i = (i ≤ n) × (noTwice (sameWire profile) (take i records) ≡ true)
 
 abbrev μ-loop : tie.MeasureT-loop
-μ-loop turns n i₀ i = n - i
+μ-loop profile records n ks i₀ i = n - i
 
 loop-holds : tie.Need-loop-holds Inv-loop μ-loop
-loop-holds c = (search needs, laws.once-none sameTurn noTurn (c .args .t1 .list))
+loop-holds c = (search needs, laws.once-none _ 0 (c .before .before .args .records .now))
 
-mul-e : tie.Need-mul-e Inv-loop μ-loop
-mul-e c = search needs
+mul-destination-at : tie.Need-mul-destination-at Inv-loop μ-loop
+mul-destination-at c = search needs
 
-element-copy-out-e : tie.Need-element-copy-out-e Inv-loop μ-loop
-element-copy-out-e c = search needs
+shared-slice-read-destination-at : tie.Need-shared-slice-read-destination-at Inv-loop μ-loop
+shared-slice-read-destination-at c = search needs
+
+cast-destination-at : tie.Need-cast-destination-at Inv-loop μ-loop
+cast-destination-at c = omega (arith, c .shared-slice-known2 .given (c .before .before .loop .i))
+
+destination-at-requires : tie.Need-destination-at-requires Inv-loop μ-loop
+destination-at-requires c κs =
+    let b = c .before .before .before .before .before in
+    let ks = b .args .records .now in
+    let l : length ks ≡ 136 = c .before .before .before .ks .given .0 in
+    encoder-in-file (b .args .profile .now) ks (b .args .n) (c .before .before .loop .i) (omega (arith, b .pre .0)) (omega arith) (b .pre .1)
 
 find-turn-requires : tie.Need-find-turn-requires Inv-loop μ-loop
-find-turn-requires c κs = search needs
+find-turn-requires c κs =
+    let b = c .before .before .before .before .before .before in
+    (omega (arith, b .pre .0), first-encoders (b .args .profile .now) (b .args .records .now) (c .before .before .before .loop .i) (b .args .n) (omega arith) (b .pre .1))
 
 returns : tie.Need-returns Inv-loop μ-loop
 returns c =
-    let s = c .before .before .before .before .before .before .args .t1 in
+    let b = c .before .before .before .before .before .before .before .before in
+    let q = b .args .profile .now in
+    let ks = b .args .records .now in
     let p = c .before .before .before .before .before .loop in
-    let l : length (s .list) ≡ 136 = search laws.long in
+    let f = c .before .find-turn in
+    let e = f .ensures ∙ ap (λ d. at (wiresTo q d) (take (p .i) ks)) (c .before .before .destination-at .ensures) in
+    let l : length ks ≡ 136 = c .before .before .before .before .before .before .ks .given .0 in
     sym
-    (laws.once-stop sameTurn noTurn (s .list) (p .i) (s .count) (omega arith) (omega arith)
-    (laws.is-there _ noTurn (s .list) (p .i) (c .before .find-turn .result) (c .before .find-turn .ensures) (omega arith) (c .if1 .taken)))
+    (laws.once-stop (sameWire q) 0 ks (p .i) (b .args .n) (omega arith) (omega (arith, b .pre .0))
+    (laws.is-there _ 0 ks (p .i) (f .result) e (omega (arith, b .pre .0)) (c .if1 .taken)))
 
 add-i : tie.Need-add-i Inv-loop μ-loop
 add-i c = search needs
@@ -48,20 +65,24 @@ loop-less c = search needs
 
 loop-again : tie.Need-loop-again Inv-loop μ-loop
 loop-again c =
-    let s = c .before .before .before .before .before .before .args .t1 in
+    let b = c .before .before .before .before .before .before .before .before in
+    let q = b .args .profile .now in
+    let ks = b .args .records .now in
     let p = c .before .before .before .before .before .loop in
-    let l : length (s .list) ≡ 136 = search laws.long in (
+    let f = c .before .find-turn in
+    let e = f .ensures ∙ ap (λ d. at (wiresTo q d) (take (p .i) ks)) (c .before .before .destination-at .ensures) in
+    let l : length ks ≡ 136 = c .before .before .before .before .before .before .ks .given .0 in (
       omega arith,
       rw add-one
-          (laws.once-more sameTurn noTurn (s .list) (p .i) (omega arith) (p .inv .1)
-          (laws.not-there _ noTurn (s .list) (p .i) (c .before .find-turn .result) (c .before .find-turn .ensures) (omega arith) (c .if1 .left))),
+          (laws.once-more (sameWire q) 0 ks (p .i) (omega (arith, b .pre .0)) (p .inv .1)
+          (laws.not-there _ 0 ks (p .i) (f .result) e (omega (arith, b .pre .0)) (c .if1 .left))),
     )
 
 returns-2 : tie.Need-returns-2 Inv-loop μ-loop
 returns-2 c =
-    let s = c .before .before .args .t1 in
+    let b = c .before .before .before .before in
     let p = c .before .loop in
-    done (noTwice sameTurn) (s .list) (p .i) (s .count) (omega arith) (omega arith) (p .inv .1)
+    done (noTwice (sameWire (b .args .profile .now))) (b .args .records .now) (p .i) (b .args .n) (omega arith) (omega arith) (p .inv .1)
 
 pub no-destination-twice-spec : {M : Type 1} → statement M
 no-destination-twice-spec =
@@ -70,8 +91,10 @@ no-destination-twice-spec =
     Inv-loop
     μ-loop
     loop-holds
-    mul-e
-    element-copy-out-e
+    mul-destination-at
+    shared-slice-read-destination-at
+    cast-destination-at
+    destination-at-requires
     find-turn-requires
     returns
     add-i

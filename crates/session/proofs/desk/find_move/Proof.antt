@@ -13,10 +13,10 @@ use Rattle.session.proofs.desk.find_move.Statement.{statement}
 use Rattle.session.proofs.desk.find_move.Tie as tie
 
 abbrev Inv-loop : tie.InvT-loop
-Inv-loop channel line n i₀ i = (i ≤ n) × (at (isChannel channel) (take i (line .list)) ≡ i)
+Inv-loop n channel line i₀ i = (i ≤ n) × (at (isChannel channel) (take i (line .list)) ≡ i)
 
 abbrev μ-loop : tie.MeasureT-loop
-μ-loop channel line n i₀ i = n - i
+μ-loop n channel line i₀ i = n - i
 
 loop-holds : tie.Need-loop-holds Inv-loop μ-loop
 loop-holds c = (search needs, laws.at-none _ noMove (c .args .t1 .list))
@@ -28,10 +28,11 @@ element-copy-out-m : tie.Need-element-copy-out-m Inv-loop μ-loop
 element-copy-out-m c = search needs
 
 returns : tie.Need-returns Inv-loop μ-loop
-returns c = let s = c .before .before .before .before .before .args .t1 in
+returns c = let b = c .before .before .before .before .before in
+    let s = b .args .t1 in
     let p = c .before .before .before .before .loop in
     let l : length (s .list) ≡ 16 = search laws.long in
-    sym (laws.at-hit _ noMove (s .list) (p .i) (s .count) (omega arith) (omega arith) (p .inv .1) (eq-eqb _ _ (c .if1 .taken)))
+    sym (laws.at-hit _ noMove (s .list) (p .i) (b .args .n) (omega arith) (omega arith) (p .inv .1) (eq-eqb _ _ (c .if1 .taken)))
 
 add-i : tie.Need-add-i Inv-loop μ-loop
 add-i c = search needs
@@ -48,7 +49,7 @@ loop-again c = let s = c .before .before .before .before .before .args .t1 in
 returns-2 : tie.Need-returns-2 Inv-loop μ-loop
 returns-2 c = let s = c .before .before .args .t1 in
     let p = c .before .loop in
-    laws.at-done _ noMove (s .list) (p .i) (s .count) (omega arith) (omega arith) (p .inv .1)
+    laws.at-done _ noMove (s .list) (p .i) (c .before .before .args .n) (omega arith) (omega arith) (p .inv .1)
 
 pub find-move-spec : {M : Type 1} → statement M
 find-move-spec =

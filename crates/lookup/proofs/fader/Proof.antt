@@ -1,11 +1,11 @@
--- `lookup::control_of` meets its contract. Assumes nothing.
+-- `lookup::fader` meets its contract. Assumes nothing.
 use mathlib.Core.Path.{sym, ap, _∙_}
 use borrow.Author.Needs.{needs}
 use Rattle.lookup.specs.Lookup.{controlOf}
 use Rattle.lookup.specs.LookupLaws.{entry-in}
 use Rattle.lookup.specs.declared.Found.the-variants as found
-use Rattle.lookup.proofs.control_of.Statement.{statement}
-use Rattle.lookup.proofs.control_of.Tie as tie
+use Rattle.lookup.proofs.fader.Statement.{statement}
+use Rattle.lookup.proofs.fader.Tie as tie
 
 find-requires : tie.Need-find-requires
 find-requires c κs = search needs
@@ -27,7 +27,7 @@ returns-2 : tie.Need-returns-2
 unfolding controlOf
 returns-2 c = rw (sym (c .before .before .find .ensures) ∙ c .enum-told .given .1)
 
-pub control-of-spec : {M : Type 1} → statement M
-control-of-spec =
+pub fader-spec : {M : Type 1} → statement M
+fader-spec =
     tie.close
     (tie.spec find-requires enum-known-k destination-at-requires enum-told returns returns-2)

@@ -4,7 +4,7 @@
 //! `describe` and `state` hold what those two need of their neighbours. The rest is the record layer around
 //! them: `names` (strings as numbers), `records` (profile, events, saved records), `line` (calls and
 //! answers), `session` (one event with its outcome), `recording` (cases for replay), and what makes and checks
-//! cases: `random`, `cases`, `device`, `generate`, `named`, `expect`, `hashes`.
+//! cases: `random`, `cases`, `device`, `generate`, `named`, `primitives`, `expect`, `hashes`.
 
 #[macro_use]
 mod branch;
@@ -23,6 +23,7 @@ pub mod hashes;
 pub mod line;
 pub mod named;
 pub mod names;
+pub mod primitives;
 pub mod profile;
 #[rustfmt::skip]
 pub mod protocol;

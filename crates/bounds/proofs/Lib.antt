@@ -18,3 +18,4 @@ pub mod Channels
 pub mod Reading
 pub mod Steady
 pub mod Longer
+pub mod Whole

@@ -8,9 +8,8 @@ use mathlib.Core.Path.{_≡_, refl, sym, ap, _∙_, subst}
 use mathlib.Core.Bool.{Bool, true, false, true≢false, false≢true}
 use mathlib.Core.List.{List, [], _∷_, _++_, map, map-append}
 use lib.Dec.{leb, ltb, eqb}
-use lib.ListN.{length, drop, take, set, getD, length-append, length-drop, length-take, length-set, List·getD-append}
-use lib.Seq.{take-all, drop-drop, getD-append-add, getD-take, getD-drop, take-suc-set, sets-eq}
-use lib.Ieee.{Float}
+use lib.ListN.{length, drop, take, set, getD, length-append, length-drop, length-take, length-set, List·getD-append, List·getD-eq-default}
+use lib.Seq.{take-all, drop-drop, getD-append-add, getD-take, getD-drop, take-suc-set, set-out, sets-eq}
 use borrow.Author.Tests.{lt-ltb, le-ltb, le-leb, lt-leb, eq-eqb, ne-eqb, ltb-true, ltb-false, leb-true, leb-false, eqb-true}
 use borrow.Rule.Slice.PartMut.{putMid}
 use Rattle.base.specs.Choice.{pick}
@@ -21,7 +20,7 @@ use Rattle.protocol.specs.Protocol.{bytesOf}
 use Rattle.protocol.specs.declared.Out.{Out}
 use Rattle.protocol.specs.declared.Out.the-variants.{Led, Position}
 use Rattle.drivers.specs.Answers.{countAt, itemAt, itemsOf, itemFits, liveFits, listIf, sceneList, liveList, yesNo, toRead, toPlaying, toScenes, toCurrent, toLive, toOther, answerTo, answerOf, isUnfit, isList, itemCount}
-use Rattle.drivers.specs.Talk.{going, Got, got, Reply, nameOf, plainCall, writeCall, ask, askRoom, askLeft, askFit, isOpen, opening, send, sendRoom}
+use Rattle.drivers.specs.Talk.{going, Got, got, Reply, nameOf, plainCall, ask, askRoom, askLeft, askFit, isOpen, opening, send, sendRoom}
 use Rattle.drivers.specs.Shown.{callBytes, callAt, callsIn, messageAt, messagesIn, stopIn, shown, haltOf, notedOf, openedIn, sentOne, roomless, replyIn, Listing}
 use Rattle.drivers.specs.declared.Call.{Call}
 use Rattle.drivers.specs.declared.Io.{Io}
@@ -438,6 +437,17 @@ pub is-open : (ans cs ms : List ℕ) (io : Io) (d : ℕ) → isOpen d (shown ans
 unfolding shown isOpen
 is-open ans cs ms io d = refl
 
+-- past the places there are, a driver is never open, and opening it changes nothing
+module _ (io : Io) (d : ℕ) (h : length (io .opened) ≡ 16) (l : 16 ≤ d) where
+  past : length (io .opened) ≤ d
+  past = omega arith
+
+  pub past-closed : false ≡ getD (io .opened) d false
+  past-closed = sym (List·getD-eq-default (io .opened) false past)
+
+  pub past-same : io ≡ openedIn io d
+  past-same = rw (set-out (io .opened) d true past)
+
 pub opens : (ans cs ms : List ℕ) (io : Io) (d : ℕ) → opening d (shown ans io cs ms) ≡ shown ans (openedIn io d) cs ms
 unfolding shown opening
 opens ans cs ms io d = refl
@@ -494,14 +504,6 @@ unfolding put64
 stores-length l c = simp length-set
 
 -- ── the calls that are made ──
-
-pub plain-low : (c : Call) (k d n a : ℕ) → c ≡ plainCall k d n a → d < 16 → c .driver < 16
-unfolding plainCall
-plain-low c k d n a e l = rw e l
-
-pub write-low : (c : Call) (d n : ℕ) (v : Float) → c ≡ writeCall d n v → d < 16 → c .driver < 16
-unfolding writeCall
-write-low c d n v e l = rw e l
 
 pub plain-listing : (ans : List ℕ) (c : Call) (k d n a from count : ℕ) → c ≡ plainCall k d n a → Listing ans (c .kind) from count → Listing ans k from count
 unfolding plainCall

@@ -15,9 +15,10 @@ use crate::SceneList;
 use crate::Tried;
 use crate::parse;
 ghost use mathlib.Core.Path.{_≡_};
+ghost use mathlib.Core.Bool.{false};
 ghost use mathlib.Core.List.{List, map};
 ghost use Prim.Native.Nat.{ℕ, _+_, _*_, _≤_, _<_};
-ghost use lib.ListN.{length, drop};
+ghost use lib.ListN.{length, getD, drop};
 ghost use Rattle.base.specs.Tail.{atFront};
 ghost use Rattle.protocol.specs.Protocol.{sentTo};
 ghost use Rattle.protocol.specs.declared.Out.the-variants.{Led};
@@ -157,11 +158,25 @@ fn ask(answers: &[u8], calls: &mut [u8; 5392], messages: &mut [u8; 306], io: Io,
 
 // ── opening ──
 
-// The driver is open from here on.
+// Whether the driver is open. A profile's and a live list's drivers are 0 to 15, and the line has a place for each. Any other is never open, as in the
+// definition, so that no caller has to carry the bound.
+fn is_open(io: Io, driver: u8) -> bool
+    ensures { λ r. ⌜ r ≡ getD (io .opened) driver false ⌝ }
+{
+    if 16 <= driver {
+        return false;
+    }
+    let d = driver as usize;
+    io.opened[d]
+}
+
+// The driver is open from here on; one that has no place changes nothing.
 fn opening(io: Io, driver: u8) -> Io
-    requires { ⌜ driver < 16 ⌝ }
     ensures { λ r. ⌜ r ≡ openedIn io driver ⌝ }
 {
+    if 16 <= driver {
+        return io;
+    }
     let d = driver as usize;
     let mut u = io;
     u.opened[d] = true;
@@ -200,11 +215,9 @@ fn open_for(
     driver: u8,
     name: u16,
 ) -> Tried
-    requires { ⌜ driver < 16 ⌝ }
     ensures { λ r. ⌜ got (r .ok) (shown (now (answers .entry)) (r .io) (now (calls .exit)) (now (messages .exit))) ≡ openFor driver name (shown (now (answers .entry)) io (now (calls .entry)) (now (messages .entry))) ⌝ }
 {
-    let d = driver as usize;
-    if io.opened[d] {
+    if is_open(io, driver) {
         return Tried { io: io, ok: true };
     }
     let c = plain(0, driver, name, 0);
@@ -226,7 +239,6 @@ fn use_call(
     io: Io,
     c: Call,
 ) -> Got
-    requires { ⌜ c .driver < 16 ⌝ }
     ensures { λ r. ⌜ got (replyIn (now (answers .entry)) (r .answer) (r .from) (r .count)) (shown (now (answers .entry)) (r .io) (now (calls .exit)) (now (messages .exit))) ≡ useCall c (shown (now (answers .entry)) io (now (calls .entry)) (now (messages .entry))) ⌝ }
     ensures { λ r. ⌜ Listing (now (answers .entry)) (c .kind) (r .from) (r .count) ⌝ }
 {
@@ -247,7 +259,6 @@ fn use_call(
 
 // Whether the call was made and answered done.
 fn done(answers: &[u8], calls: &mut [u8; 5392], messages: &mut [u8; 306], io: Io, c: Call) -> Tried
-    requires { ⌜ c .driver < 16 ⌝ }
     ensures { λ r. ⌜ got (r .ok) (shown (now (answers .entry)) (r .io) (now (calls .exit)) (now (messages .exit))) ≡ useDone c (shown (now (answers .entry)) io (now (calls .entry)) (now (messages .entry))) ⌝ }
 {
     let g = use_call(answers, calls, messages, io, c);
@@ -265,7 +276,6 @@ pub fn open(
     io: Io,
     driver: u8,
 ) -> Tried
-    requires { ⌜ driver < 16 ⌝ }
     ensures { λ r. ⌜ got (r .ok) (shown (now (answers .entry)) (r .io) (now (calls .exit)) (now (messages .exit))) ≡ openFor driver 0 (shown (now (answers .entry)) io (now (calls .entry)) (now (messages .entry))) ⌝ }
 {
     open_for(answers, calls, messages, io, driver, 0)
@@ -294,7 +304,6 @@ pub fn read(
     driver: u8,
     name: u16,
 ) -> Reading
-    requires { ⌜ driver < 16 ⌝ }
     ensures { λ r. ⌜ got (r .level) (shown (now (answers .entry)) (r .io) (now (calls .exit)) (now (messages .exit))) ≡ readOf driver name (shown (now (answers .entry)) io (now (calls .entry)) (now (messages .entry))) ⌝ }
 {
     let c = plain(1, driver, name, 0);
@@ -328,7 +337,6 @@ pub fn write(
     name: u16,
     value: f64,
 ) -> Tried
-    requires { ⌜ driver < 16 ⌝ }
     ensures { λ r. ⌜ got (r .ok) (shown (now (answers .entry)) (r .io) (now (calls .exit)) (now (messages .exit))) ≡ writeOf driver name value (shown (now (answers .entry)) io (now (calls .entry)) (now (messages .entry))) ⌝ }
 {
     let c = writing(driver, name, value);
@@ -343,7 +351,6 @@ pub fn toggle(
     driver: u8,
     name: u16,
 ) -> Tried
-    requires { ⌜ driver < 16 ⌝ }
     ensures { λ r. ⌜ got (r .ok) (shown (now (answers .entry)) (r .io) (now (calls .exit)) (now (messages .exit))) ≡ toggleOf driver name (shown (now (answers .entry)) io (now (calls .entry)) (now (messages .entry))) ⌝ }
 {
     let c = plain(3, driver, name, 0);
@@ -359,7 +366,6 @@ pub fn command(
     name: u16,
     what: u16,
 ) -> Tried
-    requires { ⌜ driver < 16 ⌝ }
     ensures { λ r. ⌜ got (r .ok) (shown (now (answers .entry)) (r .io) (now (calls .exit)) (now (messages .exit))) ≡ commandOf driver name what (shown (now (answers .entry)) io (now (calls .entry)) (now (messages .entry))) ⌝ }
 {
     let c = plain(4, driver, name, what as u32);
@@ -375,7 +381,6 @@ pub fn playing(
     driver: u8,
     name: u16,
 ) -> Tried
-    requires { ⌜ driver < 16 ⌝ }
     ensures { λ r. ⌜ got (r .ok) (shown (now (answers .entry)) (r .io) (now (calls .exit)) (now (messages .exit))) ≡ playingOf driver name (shown (now (answers .entry)) io (now (calls .entry)) (now (messages .entry))) ⌝ }
 {
     let c = plain(5, driver, name, 0);
@@ -412,7 +417,6 @@ pub fn scenes(
     io: Io,
     driver: u8,
 ) -> SceneList
-    requires { ⌜ driver < 16 ⌝ }
     ensures { λ r. ⌜ got (listed (r .ok) (seenNames (r .names))) (shown (now (answers .entry)) (r .io) (now (calls .exit)) (now (messages .exit))) ≡ scenesOf driver (shown (now (answers .entry)) io (now (calls .entry)) (now (messages .entry))) ⌝ }
     ensures { λ r. ⌜ r .names .count ≤ 128 ⌝ }
 {
@@ -452,7 +456,6 @@ pub fn current_scene(
     io: Io,
     driver: u8,
 ) -> Current
-    requires { ⌜ driver < 16 ⌝ }
     ensures { λ r. ⌜ got (r .index) (shown (now (answers .entry)) (r .io) (now (calls .exit)) (now (messages .exit))) ≡ currentOf driver (shown (now (answers .entry)) io (now (calls .entry)) (now (messages .entry))) ⌝ }
 {
     let c = plain(7, driver, 0, 0);
@@ -471,7 +474,6 @@ pub fn load_scene(
     driver: u8,
     place: u32,
 ) -> Tried
-    requires { ⌜ driver < 16 ⌝ }
     ensures { λ r. ⌜ got (r .ok) (shown (now (answers .entry)) (r .io) (now (calls .exit)) (now (messages .exit))) ≡ loadOf driver place (shown (now (answers .entry)) io (now (calls .entry)) (now (messages .entry))) ⌝ }
 {
     let c = plain(8, driver, 0, place);
@@ -526,7 +528,6 @@ pub fn live_faders(
     driver: u8,
     which: u16,
 ) -> Lives
-    requires { ⌜ driver < 16 ⌝ }
     ensures { λ r. ⌜ got (listed (r .ok) (seenFaders (r .faders))) (shown (now (answers .entry)) (r .io) (now (calls .exit)) (now (messages .exit))) ≡ liveOf driver which (shown (now (answers .entry)) io (now (calls .entry)) (now (messages .entry))) ⌝ }
     ensures { λ r. ⌜ r .faders .count ≤ 32 ⌝ }
 {

@@ -1,4 +1,4 @@
-use Rattle.drivers.proofs.Laws.{plain-low, plain-listing}
+use Rattle.drivers.proofs.Laws.{plain-listing}
 use Rattle.drivers.specs.Shown.{replyIn}
 use Rattle.drivers.specs.Talk.{liveOf, next}
 use borrow.Author.Needs.{needs}
@@ -9,7 +9,7 @@ plain-requires : tie.Need-plain-requires
 plain-requires c κs = search needs
 
 use-call-requires : tie.Need-use-call-requires
-use-call-requires c κs = plain-low _ _ _ _ _ (c .before .before .plain .ensures) (c .before .before .before .before .pre)
+use-call-requires c κs = search needs
 
 is-list-requires : tie.Need-is-list-requires
 is-list-requires c κs = search needs

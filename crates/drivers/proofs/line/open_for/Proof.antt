@@ -5,12 +5,12 @@ use borrow.Author.Needs.{needs}
 use Rattle.drivers.proofs.line.open_for.Statement.{statement}
 use Rattle.drivers.proofs.line.open_for.Tie as tie
 
-element-copy-out-if1 : tie.Need-element-copy-out-if1
-element-copy-out-if1 c = search needs
+is-open-requires : tie.Need-is-open-requires
+is-open-requires c κs = search needs
 
 returns : tie.Need-returns
 unfolding openFor next replyIn
-returns c = rw (is-open _ _ _ _ _, c .if1 .taken)
+returns c = rw (is-open _ _ _ _ _, ← c .before .is-open .ensures, c .if1 .taken)
 
 plain-requires : tie.Need-plain-requires
 plain-requires c κs = search needs
@@ -28,6 +28,7 @@ returns-2 : tie.Need-returns-2
 unfolding openFor next replyIn
 returns-2 c = rw (
   is-open _ _ _ _ _,
+  ← c .before .before .before .before .before .before .before .before .before .is-open .ensures,
   c .before .before .before .before .before .before .before .before .if1 .left,
   ← c .before .before .before .before .before .before .before .plain .ensures,
   ← c .before .before .before .before .ask .ensures .0,
@@ -41,6 +42,7 @@ returns-3 : tie.Need-returns-3
 unfolding openFor next replyIn
 returns-3 c = rw (
   is-open _ _ _ _ _,
+  ← c .before .before .before .before .before .before .before .before .is-open .ensures,
   c .before .before .before .before .before .before .before .if1 .left,
   ← c .before .before .before .before .before .before .plain .ensures,
   ← c .before .before .before .ask .ensures .0,
@@ -49,4 +51,4 @@ returns-3 c = rw (
 )
 
 pub open-for-spec : {M : Type 1} → statement M
-open-for-spec = tie.close (tie.spec element-copy-out-if1 returns plain-requires ask-requires is-done-requires opening-requires returns-2 returns-3)
+open-for-spec = tie.close (tie.spec is-open-requires returns plain-requires ask-requires is-done-requires opening-requires returns-2 returns-3)

@@ -1,4 +1,3 @@
-use Rattle.drivers.proofs.Laws.{plain-low}
 use Rattle.drivers.specs.Shown.{replyIn}
 use Rattle.drivers.specs.Talk.{playingOf, next}
 use borrow.Author.Needs.{needs}
@@ -9,7 +8,7 @@ plain-requires : tie.Need-plain-requires
 plain-requires c κs = search needs
 
 use-call-requires : tie.Need-use-call-requires
-use-call-requires c κs = plain-low _ _ _ _ _ (c .before .before .plain .ensures) (c .before .before .before .before .pre)
+use-call-requires c κs = search needs
 
 is-yes-no-requires : tie.Need-is-yes-no-requires
 is-yes-no-requires c κs = search needs

@@ -1,4 +1,3 @@
-use Rattle.drivers.proofs.Laws.{plain-low}
 use Rattle.drivers.specs.Talk.{toggleOf, next}
 use borrow.Author.Needs.{needs}
 use Rattle.drivers.proofs.line.toggle.Statement.{statement}
@@ -8,7 +7,7 @@ plain-requires : tie.Need-plain-requires
 plain-requires c κs = search needs
 
 done-requires : tie.Need-done-requires
-done-requires c κs = plain-low _ _ _ _ _ (c .before .before .plain .ensures) (c .before .before .before .before .pre)
+done-requires c κs = search needs
 
 returns : tie.Need-returns
 unfolding toggleOf next

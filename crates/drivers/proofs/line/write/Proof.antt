@@ -1,4 +1,3 @@
-use Rattle.drivers.proofs.Laws.{write-low}
 use Rattle.drivers.specs.Talk.{writeOf, next}
 use borrow.Author.Needs.{needs}
 use Rattle.drivers.proofs.line.write.Statement.{statement}
@@ -8,7 +7,7 @@ writing-requires : tie.Need-writing-requires
 writing-requires c κs = search needs
 
 done-requires : tie.Need-done-requires
-done-requires c κs = write-low _ _ _ _ (c .before .before .writing .ensures) (c .before .before .before .before .pre)
+done-requires c κs = search needs
 
 returns : tie.Need-returns
 unfolding writeOf next

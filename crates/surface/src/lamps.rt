@@ -1,13 +1,20 @@
-// Everything the surface can show: fader positions, button lamps, transport lamps.
-use rig::Current;
+// Fader positions and the four lamps of each fader: `push_state` and `is_muted` of bridge.rs.
 use drivers::Io;
 use drivers::Level;
 use drivers::Tried;
 use lookup::Destination;
 use lookup::Found;
+use rig::Current;
 use session::Lamps;
-
-// ── a fader's lamps ──
+ghost use mathlib.Core.Path.{_≡_};
+ghost use Prim.Native.Nat.{_≤_, _<_};
+ghost use lib.ListN.{take};
+ghost use Rattle.lookup.specs.Lookup.{positionsOf};
+ghost use Rattle.drivers.specs.Talk.{got};
+ghost use Rattle.drivers.specs.Shown.{shown};
+ghost use Rattle.definition.specs.Levels.{read as readOf, hasMute};
+ghost use Rattle.definition.specs.Lamps.{sendLevel, readAndSend, positionFor, mutedIf, mutedTo, pushFader, pushFaders, pushState};
+ghost use Rattle.rig.specs.Seen.{rigIn};
 
 // Whether what is wired here is muted; one whose mute cannot be read is not.
 pub fn is_muted_at(
@@ -18,21 +25,24 @@ pub fn is_muted_at(
     dest: Destination,
     targets: &[u16; 256],
     hushed: usize,
-) -> Tried {
-    if dest.mute == 65535 {
-        let held = session::is_hushed(targets, hushed, rig::levels::kept_by(dest));
-        return Tried { io: io, ok: held };
+) -> Tried
+    requires { ⌜ hushed ≤ 256 ⌝ }
+    ensures { λ r. ⌜ got (r .ok) (shown (now (answers .entry)) (r .io) (now (calls .exit)) (now (messages .exit))) ≡ mutedIf (hasMute dest) dest (take hushed (now (targets .entry))) (shown (now (answers .entry)) io (now (calls .entry)) (now (messages .entry))) ⌝ }
+{
+    if rig::levels::has_mute(dest) {
+        let g = rig::levels::read_mute(answers, calls, messages, io, dest);
+        let u = g.io;
+        return Tried {
+            io: u,
+            ok: g.known & g.muted,
+        };
     }
-    let g = rig::levels::read_mute(answers, calls, messages, io, dest);
-    let u = g.io;
-    Tried {
-        io: u,
-        ok: g.known & g.muted,
-    }
+    let held = session::is_hushed(targets, hushed, rig::levels::kept_by(dest));
+    Tried { io: io, ok: held }
 }
 
 // A fader without a destination is not muted.
-fn is_muted(
+pub fn is_muted(
     answers: &[u8],
     calls: &mut [u8; 5392],
     messages: &mut [u8; 306],
@@ -40,21 +50,27 @@ fn is_muted(
     to: Found,
     targets: &[u16; 256],
     hushed: usize,
-) -> Tried {
+) -> Tried
+    requires { ⌜ hushed ≤ 256 ⌝ }
+    ensures { λ r. ⌜ got (r .ok) (shown (now (answers .entry)) (r .io) (now (calls .exit)) (now (messages .exit))) ≡ mutedTo to (take hushed (now (targets .entry))) (shown (now (answers .entry)) io (now (calls .entry)) (now (messages .entry))) ⌝ }
+{
     match to {
         Found::To(d) => is_muted_at(answers, calls, messages, io, d, targets, hushed),
         Found::Nothing => Tried { io: io, ok: false },
     }
 }
 
-fn send_level(
+// A position for a level that is known: nothing would ever align with another's.
+pub fn send_level(
     answers: &[u8],
     calls: &mut [u8; 5392],
     messages: &mut [u8; 306],
     io: Io,
     channel: u8,
     level: Level,
-) -> Io {
+) -> Io
+    ensures { λ r. ⌜ shown (now (answers .entry)) r (now (calls .exit)) (now (messages .exit)) ≡ sendLevel channel level (shown (now (answers .entry)) io (now (calls .entry)) (now (messages .entry))) ⌝ }
+{
     match level {
         Level::At(x) => drivers::send_position(answers, calls, messages, io, channel, x),
         Level::Unknown => io,
@@ -68,15 +84,16 @@ fn read_and_send(
     io: Io,
     channel: u8,
     dest: Destination,
-) -> Io {
+) -> Io
+    ensures { λ r. ⌜ shown (now (answers .entry)) r (now (calls .exit)) (now (messages .exit)) ≡ readAndSend channel (readOf dest (shown (now (answers .entry)) io (now (calls .entry)) (now (messages .entry)))) ⌝ }
+{
     let g = rig::levels::read(answers, calls, messages, io, dest);
     let u = g.io;
     let l = g.level;
     send_level(answers, calls, messages, u, channel, l)
 }
 
-// A value is read only where it is going to be sent. Only a fader with a destination and a readable value gets a position: nothing would ever
-// align with another's.
+// A value is read only where it is going to be sent.
 fn push_position(
     answers: &[u8],
     calls: &mut [u8; 5392],
@@ -85,7 +102,9 @@ fn push_position(
     profile: &[u8],
     channel: u8,
     to: Found,
-) -> Io {
+) -> Io
+    ensures { λ r. ⌜ shown (now (answers .entry)) r (now (calls .exit)) (now (messages .exit)) ≡ positionFor (positionsOf (now (profile .entry))) channel to (shown (now (answers .entry)) io (now (calls .entry)) (now (messages .entry))) ⌝ }
+{
     if !lookup::positions(profile) {
         return io;
     }
@@ -107,14 +126,18 @@ fn push_fader(
     targets: &[u16; 256],
     hushed: usize,
     channel: u8,
-) -> Io {
+) -> Io
+    requires { ⌜ here .strips .count ≤ 8 ⌝ }
+    requires { ⌜ hushed ≤ 256 ⌝ }
+    requires { ⌜ channel < 8 ⌝ }
+    ensures { λ r. ⌜ shown (now (answers .entry)) r (now (calls .exit)) (now (messages .exit)) ≡ pushFader (rigIn (now (profile .entry)) here) lamps (take hushed (now (targets .entry))) channel (shown (now (answers .entry)) io (now (calls .entry)) (now (messages .entry))) ⌝ }
+{
     let number = channel + 1;
     let to = rig::here::destination(profile, here, number);
     let a = push_position(answers, calls, messages, io, profile, channel, to);
     let m = is_muted(answers, calls, messages, a, to, targets, hushed);
     let b = m.io;
-    let muted = m.ok;
-    let c = drivers::send_led(answers, calls, messages, b, protocol::MUTE + channel, muted);
+    let c = drivers::send_led(answers, calls, messages, b, protocol::MUTE + channel, m.ok);
     let soloed = lamps.soloed == number;
     let d = drivers::send_led(
         answers,
@@ -137,7 +160,7 @@ fn push_fader(
     )
 }
 
-// Everything the surface can show: fader positions and lamps.
+// Everything the surface can show of its faders.
 pub fn push_state(
     answers: &[u8],
     calls: &mut [u8; 5392],
@@ -148,7 +171,11 @@ pub fn push_state(
     lamps: Lamps,
     targets: &[u16; 256],
     hushed: usize,
-) -> Io {
+) -> Io
+    requires { ⌜ here .strips .count ≤ 8 ⌝ }
+    requires { ⌜ hushed ≤ 256 ⌝ }
+    ensures { λ r. ⌜ shown (now (answers .entry)) r (now (calls .exit)) (now (messages .exit)) ≡ pushState (rigIn (now (profile .entry)) here) lamps (take hushed (now (targets .entry))) (shown (now (answers .entry)) io (now (calls .entry)) (now (messages .entry))) ⌝ }
+{
     let mut w = io;
     let mut channel: u8 = 0;
     while channel < 8 {

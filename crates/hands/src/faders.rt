@@ -1,33 +1,31 @@
 // A move of a fader: held until it meets the device's level, else waiting for the next drain.
-use rig::Current;
+use crate::Faded;
+use crate::Verdict;
 use drivers::Io;
 use drivers::Level;
 use lookup::Destination;
 use lookup::Found;
-
-// What a move does: nothing, it is held, or it takes over and waits.
-pub enum Verdict {
-    Ignored,
-    Held,
-    Taken,
-}
-
-pub struct Faded {
-    pub io: Io,
-    pub verdict: Verdict,
-}
+use rig::Current;
+ghost use mathlib.Core.Path.{_≡_};
+ghost use Prim.Native.Nat.{_+_, _≤_, _<_};
+ghost use Rattle.lookup.specs.declared.Found.the-variants.{To};
+ghost use Rattle.drivers.specs.Shown.{shown};
+ghost use Rattle.definition.specs.Rig.{destination};
+ghost use Rattle.definition.specs.Faders.{isHeld};
+ghost use Rattle.rig.specs.Seen.{rigIn};
+ghost use Rattle.hands.specs.Verdicts.{Fades};
 
 // Gear that cannot answer cannot hold the fader.
-fn is_held(device: Level, last: Level, value: f64) -> bool {
+fn is_held(device: Level, last: Level, value: f64) -> bool
+    ensures { λ r. ⌜ r ≡ isHeld device last value ⌝ }
+{
     let Level::At(c) = device else {
         return false;
     };
-    if !float::far(value, c) {
-        return false;
-    }
+    let far = float::far(value, c);
     match last {
-        Level::At(p) => !float::crossed(p, c, value),
-        Level::Unknown => true,
+        Level::At(p) => far & !float::crossed(p, c, value),
+        Level::Unknown => far,
     }
 }
 
@@ -41,7 +39,9 @@ fn fader_at(
     mark: bool,
     last: Level,
     value: f64,
-) -> Faded {
+) -> Faded
+    ensures { λ r. ⌜ Fades (To dest) mark last value (shown (now (answers .entry)) io (now (calls .entry)) (now (messages .entry))) (r .verdict) (shown (now (answers .entry)) (r .io) (now (calls .exit)) (now (messages .exit))) ⌝ }
+{
     if mark | !dest.takeover {
         return Faded {
             io: io,
@@ -75,7 +75,11 @@ pub fn fader(
     last: Level,
     channel: u8,
     value: f64,
-) -> Faded {
+) -> Faded
+    requires { ⌜ here .strips .count ≤ 8 ⌝ }
+    requires { ⌜ channel < 16 ⌝ }
+    ensures { λ r. ⌜ Fades (destination (rigIn (now (profile .entry)) here) (channel + 1)) mark last value (shown (now (answers .entry)) io (now (calls .entry)) (now (messages .entry))) (r .verdict) (shown (now (answers .entry)) (r .io) (now (calls .exit)) (now (messages .exit))) ⌝ }
+{
     match rig::here::destination(profile, here, channel + 1) {
         Found::To(d) => fader_at(answers, calls, messages, io, d, mark, last, value),
         Found::Nothing => Faded {

@@ -8,7 +8,7 @@ use std::sync::Arc;
 
 use oracle::bridge::Bridge;
 use oracle::drivers::{unsupported, Driver, LiveFader, Result};
-use oracle::line::{self, DeviceButton, LiveItem};
+use oracle::line::{self, Answer, DeviceButton, LiveItem};
 use oracle::names;
 use oracle::recording::{Case, Step};
 use oracle::records::{self, f64_at, u16_at, u32_at};
@@ -19,16 +19,7 @@ pub struct Counts {
     pub calls: usize,
 }
 
-enum Answer {
-    Refused,
-    Done,
-    Level(f64),
-    Nothing,
-    YesNo(bool),
-    Index(u32),
-    List(Vec<LiveItem>),
-}
-
+/// The answers of a step. A list is kept as live items; of scenes only the name, which stands where a target does, is looked at.
 fn parse(bytes: &[u8]) -> Vec<Answer> {
     let mut all = Vec::new();
     let mut records = bytes.chunks(16);
@@ -49,7 +40,7 @@ fn parse(bytes: &[u8]) -> Vec<Answer> {
                     group: u16_at(i, 6),
                     mute: u16_at(i, 8),
                 };
-                Answer::List(items.map(item).collect())
+                Answer::Live(items.map(item).collect())
             }
         });
     }
@@ -84,7 +75,7 @@ impl Driver for Device {
 
     fn live_faders(&mut self, _which: &str) -> Result<BTreeMap<u32, LiveFader>> {
         next(|a| match a {
-            Answer::List(items) => Some(line::handed_over(items)),
+            Answer::Live(items) => Some(line::handed_over(items)),
             _ => None,
         })
     }
@@ -119,7 +110,7 @@ impl Driver for Device {
 
     fn scenes(&mut self) -> Result<Vec<String>> {
         next(|a| match a {
-            Answer::List(items) => Some(items.iter().map(|i| names::text(i.target).to_string()).collect()),
+            Answer::Live(items) => Some(items.iter().map(|i| names::text(i.target).to_string()).collect()),
             _ => None,
         })
     }

@@ -10,6 +10,7 @@ use lib.ListN.{length}
 use lib.Ieee.{Float}
 use Rattle.base.specs.Keyed.{find}
 use Rattle.float.specs.Leaf.{dueOf, flashOver}
+use Rattle.float.specs.LeafLaws.{due-most}
 use Rattle.protocol.specs.Protocol.{sentTo, transportNote}
 use Rattle.protocol.specs.declared.Found as notes
 use Rattle.protocol.specs.declared.Found.the-variants as note
@@ -36,10 +37,6 @@ use Rattle.bounds.proofs.Spending.{Rules, Costs, Takes, stay, says, mor
 abbrev pub endCost : Bool → ℕ → ℕ
 endCost true sent = 41 + (6 - sent)
 endCost false sent = 0
-
-pub due-most : (now start : Float) → dueOf now start ≤ 6
-unfolding dueOf
-due-most now start = omega arith
 
 module _ {D : ℕ → Type 0} (R : Rules D) where
   level-costs : (ch : ℕ) (x : Level) → Costs R 1 0 (sendLevel ch x)

@@ -10,6 +10,7 @@ use borrow.Author.Tests.{leb-true, leb-false, le-leb}
 use Rattle.base.specs.Range.{every}
 use Rattle.base.specs.RangeLaws.{every-at}
 use Rattle.float.specs.Leaf.{dueOf, flashOver}
+use Rattle.float.specs.LeafLaws.{due-most}
 use Rattle.drivers.specs.Talk.{Talk, Act}
 use Rattle.session.specs.Session.{flashing, noFlash}
 use Rattle.session.specs.declared.Flash.{Flash}
@@ -18,7 +19,6 @@ use Rattle.session.specs.declared.Moves.{Moves}
 use Rattle.definition.specs.Rig.{Rig}
 use Rattle.definition.specs.Flash.{flashOf, showNumber, flashNumber, flashBank, sentUpTo, endIf, tickIf, tickFlash}
 use Rattle.definition.specs.Shape.{shapedFlash}
-use Rattle.bounds.proofs.Surface.{due-most}
 
 -- what document 01 asks of a flash that is on
 abbrev pub baseOk : ℕ → Bool

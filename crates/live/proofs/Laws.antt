@@ -16,6 +16,7 @@ use Rattle.drivers.specs.Talk.{Talk, got, next, liveOf}
 use Rattle.drivers.specs.Shown.{listed}
 use Rattle.drivers.specs.declared.LiveFader.{LiveFader}
 use Rattle.session.specs.Session.{seenStrips, stripsIf, stripsOr, stripsOf, sameStrips}
+use Rattle.session.specs.SessionLaws.{is-known}
 use Rattle.session.specs.declared.Strip.{Strip}
 use Rattle.session.specs.declared.Strips.{Strips}
 use Rattle.session.specs.declared.Lamps.{Lamps}
@@ -29,14 +30,6 @@ use Rattle.live.specs.declared.Refreshed.{Refreshed}
 -- ── the lists before and after ──
 
 -- a list that was handed over is known
-is-known : (s : Strips) (l : List Strip) → seenStrips s ≡ some l → s .known ≡ true
-unfolding seenStrips
-is-known s l e = go (s .known) e
-  where
-    go : (b : Bool) → stripsIf b (take (s .count) (s .list)) ≡ some l → b ≡ true
-    go true q = refl
-    go false q = cc
-
 -- the first list is another one; a later one is compared
 pub first-list : (s : Strips) (l : List Strip) → not (s .known) ≡ true → false ≡ sameAs (seenStrips s) l
 unfolding seenStrips

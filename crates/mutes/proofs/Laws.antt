@@ -1,23 +1,21 @@
 -- Which targets are silenced, room for one more, and a mute that is to be as asked. Assumes nothing.
-use mathlib.Core.Path.{_≡_, refl, sym, ap, subst, _∙_}
+use mathlib.Core.Path.{_≡_, refl, sym, subst, _∙_}
 use mathlib.Core.Bool.{Bool, true, false, _&&_, not, Bool·beq, false≢true}
 use mathlib.Core.List.{List, [], _∷_}
 use mathlib.Core.Option.{some}
-use Prim.Native.Nat.{ℕ, zero, suc, _≤_}
-use native.Mathlib.Omega.{arith}
+use Prim.Native.Nat.{ℕ}
 use lib.Dec.{eqb}
 use lib.Ieee.{Float}
-use lib.ListN.{length, take}
 use borrow.Author.Tests.{not-true, not-false}
 use Rattle.base.specs.Choice.{pick}
-use Rattle.base.specs.Keyed.{find, anyOf, beside}
+use Rattle.base.specs.Keyed.{find, anyOf}
 use Rattle.lookup.specs.declared.Destination.{Destination}
 use Rattle.lookup.specs.declared.Found.{Found}
 use Rattle.lookup.specs.declared.Found.the-variants as found
 use Rattle.drivers.specs.Talk.{Talk, got, toggleOf}
 use Rattle.drivers.specs.declared.Level.{Level}
 use Rattle.drivers.specs.declared.Level.the-variants.{At, Unknown}
-use Rattle.session.specs.Session.{Hushed, hushedUpTo, targetsOf, sameTarget, isTarget, isHushed, levelFor, hushedLevel, hasRoom}
+use Rattle.session.specs.Session.{Hushed, targetsOf, sameTarget, isTarget, isHushed, levelFor, hushedLevel, hasRoom}
 use Rattle.definition.specs.Levels.{readMute, keptBy, hasMute}
 use Rattle.definition.specs.Muting.{setAfter, setMute}
 use Rattle.rig.specs.Seen.{muteIf}
@@ -45,14 +43,6 @@ is-hushed target s l x e h = rw (is-held target s, ← e, h)
 
 pub not-hushed : (target : ℕ) (s : List Hushed) (l : Level) → l ≡ hushedLevel target s → l ≡ Unknown → isHushed target (targetsOf s) ≡ false
 not-hushed target s l e h = rw (is-held target s, ← e, h)
-
--- targets and levels side by side, and of them the targets
-pub targets-seen : (n : ℕ) (ts : List ℕ) (ls : List Float) → n ≤ length ls → targetsOf (hushedUpTo n ts ls) ≡ take n ts
-unfolding beside
-targets-seen zero ts ls h = refl
-targets-seen (suc n) [] ls h = refl
-targets-seen (suc n) (t ∷ ts) [] h = absurd (omega arith)
-targets-seen (suc n) (t ∷ ts) (l ∷ ls) h = ap (λ r. t ∷ r) (targets-seen n ts ls (omega arith))
 
 -- ── room ──
 

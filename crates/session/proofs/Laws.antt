@@ -17,7 +17,7 @@ use Rattle.base.specs.Keyed.{at, anyOf, allOf, change, keep, beside}
 use Rattle.base.specs.BesideLaws as side
 use Rattle.base.specs.KeyedLaws as laws
 use Rattle.lookup.specs.Lookup.{destAt}
-use Rattle.session.specs.Session.{Turn, turnAt, turnsUpTo, isEncoder, wiresTo, isDest, addTo, firstTurn, turn, RoomToTurn, Hushed, hushedAt, hushedUpTo, hushedLevel, hush, unhush, hasRoom, sameTarget, isTarget, otherTarget, seenStrips, stripsIf, stripsOr, isStrip, stripAt, noStrip, sameAt}
+use Rattle.session.specs.Session.{Turn, turnAt, turnsUpTo, isEncoder, wiresTo, isDest, addTo, firstTurn, turn, RoomToTurn, Hushed, hushedAt, hushedUpTo, hushedLevel, hush, unhush, hasRoom, sameTarget, isTarget, otherTarget, seenStrips, stripsOr, isStrip, stripAt, noStrip, sameAt}
 use Rattle.drivers.specs.declared.Level.the-variants.{At, Unknown}
 use Rattle.session.specs.declared.Move.{Move}
 use Rattle.session.specs.declared.Strip.{Strip}
@@ -263,14 +263,6 @@ module _ (p ks : List ℕ) (ns : List ℤ) (n k i : ℕ) (delta : ℤ) (lk : len
       (laws.every-more (isEncoder p) 0 (set ks n k) n (lt-length-set ks n k m) (rw (take-set-le n ks n k (omega arith)) (room .encoders)) (rw (getD-set-same ks n k 0 m) (room .encoder)))
 
 -- ── the strips of a bank ──
-pub is-known : (s : Strips) (l : List Strip) → seenStrips s ≡ some l → s .known ≡ true
-unfolding seenStrips
-is-known s l e = go (s .known) e
-  where
-    go : (b : Bool) → stripsIf b (take (s .count) (s .list)) ≡ some l → b ≡ true
-    go true q = refl
-    go false q = cc
-
 abbrev pub looked : ℕ → Strips → Option Strip
 looked number s = stripAt number (stripsOr (seenStrips s))
 

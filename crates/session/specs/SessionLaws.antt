@@ -1,9 +1,10 @@
 -- Laws of the session: no channel, target or destination waits twice, whatever is done to its list, and a line of channels below 16 has a place for
 -- every channel. A driver's list without a number twice has at most eight faders on the surface. Assumes nothing.
-use Prim.Native.Nat.{ℕ, _-_, _≤_, _<_}
-use mathlib.Core.Path.{_≡_, refl, sym, _∙_}
+use Prim.Native.Nat.{ℕ, zero, suc, _-_, _≤_, _<_}
+use mathlib.Core.Path.{_≡_, refl, sym, ap, _∙_}
 use mathlib.Core.Bool.{Bool, true, false, true≢false, _&&_}
 use mathlib.Core.List.{List, [], _∷_, map}
+use mathlib.Core.Option.{some}
 use native.Mathlib.Omega.{arith}
 use lib.Dec.{eqb, leb, ltb}
 use lib.ListN.{length, getD, take, length-map}
@@ -12,17 +13,18 @@ use lib.IntN.{ℤ}
 use lib.Ieee.{Float, nan}
 use borrow.Author.Tests.{lt-ltb, ltb-true, leb-true, ne-eqb, eqb-false}
 use Rattle.base.specs.Choice.{pick}
-use Rattle.base.specs.Keyed.{anyOf, allOf, change, keep, noTwice}
+use Rattle.base.specs.Keyed.{anyOf, allOf, change, keep, noTwice, beside}
 use Rattle.base.specs.KeyedLaws.{every-stop}
 use Rattle.base.specs.RangeLaws.{and-left, and-right}
 use Rattle.base.specs.Pigeon.{pigeon, has-room-for, every-change, once-change, left-of, right-of, first-no, rest-no, no-left, no-right}
 use Rattle.profile.specs.Profile.{records, isKind}
 use Rattle.lookup.specs.Lookup.{sameDest}
 use Rattle.lookup.specs.declared.Destination.{Destination}
-use Rattle.session.specs.Session.{moveOf, placeMove, hasPlace, Turn, isEncoder, isDest, addTo, firstTurn, turn, Hushed, hushedAt, hush, otherTarget, unhush, onSurface, stripOf, stripsOf}
+use Rattle.session.specs.Session.{moveOf, placeMove, hasPlace, Turn, isEncoder, isDest, addTo, firstTurn, turn, Hushed, hushedAt, hushedUpTo, targetsOf, hush, otherTarget, unhush, seenStrips, stripsIf, onSurface, stripOf, stripsOf}
 use Rattle.drivers.specs.declared.LiveFader.{LiveFader}
 use Rattle.session.specs.declared.Move.{Move}
 use Rattle.session.specs.declared.Strip.{Strip}
+use Rattle.session.specs.declared.Strips.{Strips}
 
 -- ── any list ──
 
@@ -258,3 +260,20 @@ strips-well driver l h o =
       drivers = all-map (stripOf driver) onSurface lowDriver (λ f e. lt-ltb driver 16 h) k (all-keep onSurface l);
       once = once-map (stripOf driver) sameNumber sameNumbered (λ f g. refl) k ∙ once-keep sameNumber onSurface l o;
     }
+
+-- a live list that is seen is known
+pub is-known : (s : Strips) (l : List Strip) → seenStrips s ≡ some l → s .known ≡ true
+unfolding seenStrips
+is-known s l e = go (s .known) e
+  where
+    go : (b : Bool) → stripsIf b (take (s .count) (s .list)) ≡ some l → b ≡ true
+    go true q = refl
+    go false q = cc
+
+-- the targets of what is silenced are the first of their array
+pub targets-seen : (n : ℕ) (ts : List ℕ) (ls : List Float) → n ≤ length ls → targetsOf (hushedUpTo n ts ls) ≡ take n ts
+unfolding beside
+targets-seen zero ts ls h = refl
+targets-seen (suc n) [] ls h = refl
+targets-seen (suc n) (t ∷ ts) [] h = absurd (omega arith)
+targets-seen (suc n) (t ∷ ts) (l ∷ ls) h = ap (λ r. t ∷ r) (targets-seen n ts ls (omega arith))

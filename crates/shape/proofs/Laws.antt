@@ -1,18 +1,18 @@
 -- What the tests of a session's shape share. Assumes nothing.
-use mathlib.Core.Path.{_≡_, refl, sym, ap, subst}
+use mathlib.Core.Path.{_≡_, refl, sym, subst}
 use mathlib.Core.Bool.{Bool, true, false, _&&_}
 use mathlib.Core.List.{List, [], _∷_}
 use Prim.Native.Nat.{ℕ, zero, suc, _≤_}
 use native.Mathlib.Omega.{arith}
-use lib.Ieee.{Float, nan}
+use lib.Ieee.{nan}
 use lib.ListN.{length, take}
 use lib.Seq.{length-take-le}
 use borrow.Author.Tests.{le-leb}
 use Rattle.base.specs.Range.{every}
-use Rattle.base.specs.Keyed.{allOf, noTwice, beside}
+use Rattle.base.specs.Keyed.{allOf, noTwice}
 use Rattle.base.specs.Pigeon.{left-of, right-of}
 use Rattle.base.specs.BesideLaws.{beside-all, beside-once}
-use Rattle.session.specs.Session.{turnAt, isEncoder, hushedUpTo, targetsOf}
+use Rattle.session.specs.Session.{turnAt, isEncoder}
 use Rattle.session.specs.declared.Move.{Move}
 use Rattle.session.specs.declared.Strips.{Strips}
 use Rattle.session.specs.declared.Turns.{Turns}
@@ -40,14 +40,6 @@ first-encoders p (k ∷ ks) (suc i) zero h e = absurd (omega arith)
 first-encoders p (k ∷ ks) (suc i) (suc n) h e =
     rw (left-of (isEncoder p k) (allOf (isEncoder p) (take n ks)) e)
     (first-encoders p ks i n (omega arith) (right-of (isEncoder p k) (allOf (isEncoder p) (take n ks)) e))
-
--- targets and levels side by side, and of them the targets
-pub targets-seen : (n : ℕ) (ts : List ℕ) (ls : List Float) → length ts ≡ length ls → targetsOf (hushedUpTo n ts ls) ≡ take n ts
-unfolding beside
-targets-seen zero ts ls e = refl
-targets-seen (suc n) [] ls e = refl
-targets-seen (suc n) (t ∷ ts) [] e = absurd (omega arith)
-targets-seen (suc n) (t ∷ ts) (l ∷ ls) e = ap (λ r. t ∷ r) (targets-seen n ts ls (omega arith))
 
 -- three tests, of which the code makes the first by itself
 pub three : (a b c x y : Bool) → a ≡ true → x ≡ b → y ≡ c → (x && y) ≡ every (a ∷ b ∷ c ∷ [])

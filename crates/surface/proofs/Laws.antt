@@ -68,10 +68,6 @@ sent-more f due l = let e : max (f .sent) due ≡ due = omega arith in rw e
 pub sent-before : (f : Flash) (due : ℕ) → due ≤ f .sent → f ≡ sentUpTo due f
 sent-before f due l = let e : max (f .sent) due ≡ f .sent = omega arith in rw e
 
-pub due-most : (now start : Float) → dueOf now start ≤ 6
-unfolding dueOf
-due-most now start = omega arith
-
 -- a flash keeps its lamp
 pub note-kept : (l k : Lamps) (f : Flash) (due : ℕ) → f ≡ sentUpTo due (l .flash) → k ≡ flashing f l → l .flash .base + l .flash .column ≤ 255 →
     k .flash .base + k .flash .column ≤ 255

@@ -3,7 +3,8 @@ use mathlib.Core.Path.{_≡_}
 use native.Mathlib.Omega.{arith}
 use lib.ListN.{length}
 use Rattle.drivers.specs.Talk.{next}
-use Rattle.mutes.proofs.Laws.{room-at, targets-seen}
+use Rattle.session.specs.SessionLaws.{targets-seen}
+use Rattle.mutes.proofs.Laws.{room-at}
 use Rattle.definition.specs.Muting.{mute}
 use borrow.Author.Needs.{needs}
 use Rattle.mutes.proofs.mute.Statement.{statement}

@@ -10,7 +10,8 @@ use borrow.Author.Tests.{ltb-true}
 use Rattle.base.specs.RangeLaws.{and-left, and-right}
 use Rattle.base.specs.Keyed.{keep}
 use Rattle.base.specs.KeyedLaws as laws
-use Rattle.session.proofs.Laws.{first-yes, first-no, is-known}
+use Rattle.session.proofs.Laws.{first-yes, first-no}
+use Rattle.session.specs.SessionLaws.{is-known}
 use Rattle.session.specs.Session.{seenStrips, stripOf, stripsOf, onSurface}
 use Rattle.drivers.specs.declared.LiveFader.{LiveFader}
 use borrow.Author.Needs.{needs}

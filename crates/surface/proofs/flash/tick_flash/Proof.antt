@@ -1,5 +1,6 @@
 use native.Mathlib.Omega.{arith}
-use Rattle.surface.proofs.Laws.{due-most, no-tick, plays, plays-out, note-kept}
+use Rattle.float.specs.LeafLaws.{due-most}
+use Rattle.surface.proofs.Laws.{no-tick, plays, plays-out, note-kept}
 use borrow.Author.Tests.{not-true, not-false}
 use borrow.Author.Needs.{needs}
 use Rattle.surface.proofs.flash.tick_flash.Statement.{statement}

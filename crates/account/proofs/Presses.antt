@@ -115,20 +115,19 @@ makes-offTo : (f : Found) (was : Bool) (s : List Hushed) → Asks notLoad (offTo
 makes-offTo (found.To d) was s = makes-offIf (hasMute d) d was s
 makes-offTo found.Nothing was s = still
 
-makes-soloOff : (r : Rig) (group : ℕ) (l : Lamps) (n : ℕ) (s : List Hushed) → Asks notLoad (soloOff r group l n s)
+makes-soloOff : (r : Rig) (group : ℕ) (l : Lamps) (n : ℕ) (s : List Hushed) → Asks notLoad (soloOff (peer r group) l n s)
 unfolding soloOff
 makes-soloOff r group l zero s = still
 makes-soloOff r group l (suc n) s = bind (makes-soloOff r group l n s) (λ k. makes-offTo (peer r group (n + 1)) _ k)
 
-makes-notes : (r : Rig) (group : ℕ) (s : List Hushed) (n : ℕ) (l : Lamps) → Asks notLoad (noteMutes r group s n l)
+makes-notes : (r : Rig) (group : ℕ) (ts : List ℕ) (n : ℕ) (l : Lamps) → Asks notLoad (noteMutes (peer r group) ts n l)
 unfolding noteMutes
-makes-notes r group s zero l = still
-makes-notes r group s (suc n) l =
-    bind (makes-notes r group s n l) (λ k. bind (makes-mutedTo refl refl (peer r group (n + 1)) (targetsOf s)) (λ b. still))
+makes-notes r group ts zero l = still
+makes-notes r group ts (suc n) l = bind (makes-notes r group ts n l) (λ k. bind (makes-mutedTo refl refl (peer r group (n + 1)) ts) (λ b. still))
 
-makes-noteIf : (b : Bool) (r : Rig) (group : ℕ) (s : List Hushed) (l : Lamps) → Asks notLoad (noteIf b r group s l)
-makes-noteIf true r group s l = makes-notes r group s 16 l
-makes-noteIf false r group s l = still
+makes-noteIf : (b : Bool) (r : Rig) (group : ℕ) (ts : List ℕ) (l : Lamps) → Asks notLoad (noteIf b (peer r group) ts l)
+makes-noteIf true r group ts l = makes-notes r group ts 16 l
+makes-noteIf false r group ts l = still
 
 makes-silenceIf : (b : Bool) (d : Destination) (s : List Hushed) → Asks notLoad (silenceIf b d s)
 makes-silenceIf true d s = giving (line-of (makes-write d _))
@@ -146,7 +145,7 @@ makes-onTo : (f : Found) (silence : Bool) (s : List Hushed) → Asks notLoad (on
 makes-onTo (found.To d) silence s = makes-onIf (hasMute d) d silence s
 makes-onTo found.Nothing silence s = still
 
-makes-soloOn : (r : Rig) (group fader n : ℕ) (s : List Hushed) → Asks notLoad (soloOn r group fader n s)
+makes-soloOn : (r : Rig) (group fader n : ℕ) (s : List Hushed) → Asks notLoad (soloOn (peer r group) fader n s)
 unfolding soloOn
 makes-soloOn r group fader zero s = still
 makes-soloOn r group fader (suc n) s = bind (makes-soloOn r group fader n s) (λ k. makes-onTo (peer r group (n + 1)) _ k)
@@ -155,7 +154,7 @@ makes-soloIf : (b : Bool) (r : Rig) (group fader : ℕ) (l : Lamps) (s : List Hu
 makes-soloIf true r group fader l s =
     bind (makes-soloOff r group l 16 s) (λ k. giving (makes-push refl refl r (soloTo 0 (noneNoted l)) (targetsOf k)))
 makes-soloIf false r group fader l s =
-    bind (makes-noteIf (eqb (l .soloed) 0) r group s l)
+    bind (makes-noteIf (eqb (l .soloed) 0) r group (targetsOf s) l)
     (λ n. bind (makes-soloOn r group fader 16 s) (λ k. giving (makes-push refl refl r (soloTo fader n) (targetsOf k))))
 
 makes-soloWith : (f : Found) (r : Rig) (fader : ℕ) (l : Lamps) (s : List Hushed) → Asks notLoad (soloWith f r fader l s)

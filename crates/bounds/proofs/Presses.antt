@@ -166,26 +166,26 @@ module _ {D : ℕ → Type 0} (R : Rules D) where
     unfolding mute
     mute-takes n l s = muteTo-takes (destination r n) l s (to n)
 
-    soloOff-takes : (group : ℕ) (l : Lamps) (n : ℕ) (s : List Hushed) → Takes R 0 (n * 2) (soloOff r group l n s)
+    soloOff-takes : (group : ℕ) (l : Lamps) (n : ℕ) (s : List Hushed) → Takes R 0 (n * 2) (soloOff (peer r group) l n s)
     unfolding soloOff
     soloOff-takes group l zero s = still R
     soloOff-takes group l (suc n) s =
         upTo R (bind R (soloOff-takes group l n s) (λ k. offTo-takes (peer r group (n + 1)) _ k (peer-may D r to group (n + 1)))) (omega arith) (omega arith)
 
-    notes-take : (group : ℕ) (s : List Hushed) (n : ℕ) (l : Lamps) → Takes R 0 n (noteMutes r group s n l)
+    notes-take : (group : ℕ) (ts : List ℕ) (n : ℕ) (l : Lamps) → Takes R 0 n (noteMutes (peer r group) ts n l)
     unfolding noteMutes
-    notes-take group s zero l = still R
-    notes-take group s (suc n) l =
+    notes-take group ts zero l = still R
+    notes-take group ts (suc n) l =
         upTo R
-        (bind R (notes-take group s n l)
-        (λ k. bind R (muted-takes R (peer r group (n + 1)) (targetsOf s) (peer-may D r to group (n + 1))) (λ b. done R)))
+        (bind R (notes-take group ts n l)
+        (λ k. bind R (muted-takes R (peer r group (n + 1)) ts (peer-may D r to group (n + 1))) (λ b. done R)))
         (omega arith) (omega arith)
 
-    noteIf-takes : (b : Bool) (group : ℕ) (s : List Hushed) (l : Lamps) → Takes R 0 16 (noteIf b r group s l)
-    noteIf-takes true group s l = notes-take group s 16 l
-    noteIf-takes false group s l = still R
+    noteIf-takes : (b : Bool) (group : ℕ) (ts : List ℕ) (l : Lamps) → Takes R 0 16 (noteIf b (peer r group) ts l)
+    noteIf-takes true group ts l = notes-take group ts 16 l
+    noteIf-takes false group ts l = still R
 
-    soloOn-takes : (group fader n : ℕ) (s : List Hushed) → Takes R 0 (n * 2) (soloOn r group fader n s)
+    soloOn-takes : (group fader n : ℕ) (s : List Hushed) → Takes R 0 (n * 2) (soloOn (peer r group) fader n s)
     unfolding soloOn
     soloOn-takes group fader zero s = still R
     soloOn-takes group fader (suc n) s =
@@ -197,7 +197,7 @@ module _ {D : ℕ → Type 0} (R : Rules D) where
         (bind R (soloOff-takes group l 16 s) (λ k. giving R (push-costs R r to (soloTo 0 (noneNoted l)) (targetsOf k))))
         (omega arith) (omega arith)
     soloIf-takes false group fader l s =
-        bind R (noteIf-takes (eqb (l .soloed) 0) group s l)
+        bind R (noteIf-takes (eqb (l .soloed) 0) group (targetsOf s) l)
         (λ n. bind R (soloOn-takes group fader 16 s) (λ k. giving R (push-costs R r to (soloTo fader n) (targetsOf k))))
 
     soloWith-takes : (f : Found) (fader : ℕ) (l : Lamps) (s : List Hushed) → Takes R 40 64 (soloWith f r fader l s)

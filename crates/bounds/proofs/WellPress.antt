@@ -18,7 +18,7 @@ use Rattle.session.specs.Session.{Hushed, targetsOf, soloTo, noneNoted, noteMut
 use Rattle.session.specs.declared.Lamps.{Lamps}
 use Rattle.session.specs.declared.Moves.{Moves}
 use Rattle.definition.specs.Rig.{Rig, destination, device}
-use Rattle.definition.specs.Muting.{noteMutes, noteIf, soloIf, soloWith, solo}
+use Rattle.definition.specs.Muting.{peer, noteMutes, noteIf, soloIf, soloWith, solo}
 use Rattle.definition.specs.Scenes.{Started, placed, loadedIf, loadAtIf, loadSceneAt, startIf, start, shownIf, pageIf, stepSceneIf, stepScene, sceneIf, scene, isAt, nextScene, sceneOnDevice, sceneNames, loadOn}
 use Rattle.definition.specs.Banks.{Selected, selectIf, selectBank, nextBank, stepIf, stepBank}
 use Rattle.definition.specs.Buttons.{Press, Pressed, bankOf, page, walk, command, recAs, rec, selectAs, muteAs, soloAs, orFirst, pressOf, button, recLoads}
@@ -27,19 +27,19 @@ use Rattle.bounds.proofs.WellFlash.{Shaped, number-gives, bank-gives}
 -- ── solo and scenes ──
 
 module _ (r : Rig) where
-  notes-shaped : (group : ℕ) (s : List Hushed) (n : ℕ) (l : Lamps) (t : Talk) → Shaped l → Shaped ((noteMutes r group s n l t) .value)
+  notes-shaped : (group : ℕ) (s : List ℕ) (n : ℕ) (l : Lamps) (t : Talk) → Shaped l → Shaped ((noteMutes (peer r group) s n l t) .value)
   unfolding noteMutes next noneNoted noteMuted
   notes-shaped group s zero l t h = h
   notes-shaped group s (suc n) l t h = notes-shaped group s n l t h
 
-  noteIf-shaped : (b : Bool) (group : ℕ) (s : List Hushed) (l : Lamps) (t : Talk) → Shaped l → Shaped ((noteIf b r group s l t) .value)
+  noteIf-shaped : (b : Bool) (group : ℕ) (s : List ℕ) (l : Lamps) (t : Talk) → Shaped l → Shaped ((noteIf b (peer r group) s l t) .value)
   noteIf-shaped true group s l t h = notes-shaped group s 16 l t h
   noteIf-shaped false group s l t h = h
 
   soloIf-shaped : (b : Bool) (group fader : ℕ) (l : Lamps) (s : List Hushed) (t : Talk) → Shaped l → Shaped ((soloIf b r group fader l s t) .value .lamps)
   unfolding next noneNoted soloTo
   soloIf-shaped true group fader l s t h = h
-  soloIf-shaped false group fader l s t h = noteIf-shaped (eqb (l .soloed) 0) group s l t h
+  soloIf-shaped false group fader l s t h = noteIf-shaped (eqb (l .soloed) 0) group (targetsOf s) l t h
 
   soloWith-shaped : (f : Found) (fader : ℕ) (l : Lamps) (s : List Hushed) (t : Talk) → Shaped l → Shaped ((soloWith f r fader l s t) .value .lamps)
   soloWith-shaped (found.To d) fader l s t h = soloIf-shaped (eqb (l .soloed) fader) (d .group) fader l s t h

@@ -167,5 +167,5 @@ button note p = pressOf (kindOf note) (orFirst (channelOf note)) p
 -- the targets that a press adds to those silenced: number 11 counts them with those held
 unfoldable pub addedBy : ℕ → Press → List ℕ
 addedBy note p =
-    pick (eqb (kindOf note) 2) (addedByMute (p .rig) (orFirst (channelOf note) + 1) (p .silenced))
-    (pick (eqb (kindOf note) 1) (addedBySolo (p .rig) (orFirst (channelOf note) + 1) (p .lamps) (p .silenced)) [])
+    pick (eqb (kindOf note) 2) (addedByMute (p .rig) (orFirst (channelOf note) + 1) (targetsOf (p .silenced)))
+    (pick (eqb (kindOf note) 1) (addedBySolo (p .rig) (orFirst (channelOf note) + 1) (p .lamps) (targetsOf (p .silenced))) [])

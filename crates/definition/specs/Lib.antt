@@ -11,3 +11,4 @@ pub mod Buttons
 pub mod Step
 pub mod Shape
 pub mod Whole
+pub mod SilencingLaws

@@ -1,24 +1,21 @@
 -- Mute and solo, on gear with and without a mute of its own: `mute`, `solo`, `set_mute`, and number 11. Definitions only.
-use Prim.Native.Nat.{ℕ, zero, suc, _+_, _-_}
-use mathlib.Core.List.{List, [], _∷_}
-use mathlib.Core.Bool.{Bool, true, false, _&&_, _||_, not, Bool·beq}
+use Prim.Native.Nat.{ℕ, zero, suc, _+_}
+use mathlib.Core.List.{List, []}
+use mathlib.Core.Bool.{Bool, true, false, not, Bool·beq}
 use mathlib.Core.Option.{Option, none, some}
-use lib.Dec.{eqb, ltb}
-use lib.ListN.{length, replicate}
-use lib.Ieee.{Float}
+use lib.Dec.{eqb}
 use Rattle.base.specs.Choice.{pick}
-use Rattle.base.specs.Keyed.{anyOf, change}
+use Rattle.base.specs.Keyed.{change}
 use Rattle.float.specs.Leaf.{f0}
 use Rattle.lookup.specs.declared.Destination.{Destination}
 use Rattle.lookup.specs.declared.Found.{Found}
 use Rattle.lookup.specs.declared.Found.the-variants as found
 use Rattle.drivers.specs.Talk.{Talk, Got, Act, got, next, _>>=_, toggleOf, writeOf}
-use Rattle.drivers.specs.declared.Level.{Level}
 use Rattle.session.specs.Session.{Hushed, targetsOf, isHushed, hushedLevel, hush, unhush, wasMuted, noteMuted, noneNoted, soloTo}
 use Rattle.session.specs.declared.Lamps.{Lamps}
 use Rattle.definition.specs.Rig.{Rig, destination}
 use Rattle.definition.specs.Levels.{read, write, readMute, orZero, keptBy, hasMute}
-use Rattle.definition.specs.Lamps.{pushState, isMuted, mutedTo}
+use Rattle.definition.specs.Lamps.{pushState, mutedTo}
 
 -- ── gear without a mute ──
 
@@ -86,21 +83,20 @@ abbrev pub offTo : Found → Bool → List Hushed → Act (List Hushed)
 offTo (found.To d) was s = offIf (hasMute d) d was s
 offTo found.Nothing was s = got s
 
--- faders 1 to n, by rising number
-unfoldable pub soloOff : Rig → ℕ → Lamps → ℕ → List Hushed → Act (List Hushed)
-soloOff r group l zero s t = got s t
-soloOff r group l (suc n) s t = next (soloOff r group l n s t) (λ k. offTo (peer r group (n + 1)) (wasMuted (n + 1) l) k)
+-- faders 1 to n, by rising number; `of` has the peers among them
+unfoldable pub soloOff : (ℕ → Found) → Lamps → ℕ → List Hushed → Act (List Hushed)
+soloOff of l zero s t = got s t
+soloOff of l (suc n) s t = next (soloOff of l n s t) (λ k. offTo (of (n + 1)) (wasMuted (n + 1) l) k)
 
 -- on: what each peer's mute is before it
-unfoldable pub noteMutes : Rig → ℕ → List Hushed → ℕ → Lamps → Act Lamps
-noteMutes r group s zero l t = got (noneNoted l) t
-noteMutes r group s (suc n) l t =
-    next (noteMutes r group s n l t) (λ k u. next (mutedTo (peer r group (n + 1)) (targetsOf s) u) (λ b. got (noteMuted (n + 1) b k)))
+unfoldable pub noteMutes : (ℕ → Found) → List ℕ → ℕ → Lamps → Act Lamps
+noteMutes of ts zero l t = got (noneNoted l) t
+noteMutes of ts (suc n) l t = next (noteMutes of ts n l t) (λ k u. next (mutedTo (of (n + 1)) ts u) (λ b. got (noteMuted (n + 1) b k)))
 
 -- a second solo keeps what the first noted
-abbrev pub noteIf : Bool → Rig → ℕ → List Hushed → Lamps → Act Lamps
-noteIf true r group s l t = noteMutes r group s 16 l t
-noteIf false r group s l t = got l t
+abbrev pub noteIf : Bool → (ℕ → Found) → List ℕ → Lamps → Act Lamps
+noteIf true of ts l t = noteMutes of ts 16 l t
+noteIf false of ts l t = got l t
 
 -- "`solo` writes low": its level is kept, unless it is already
 abbrev pub silenceIf : Bool → Destination → List Hushed → Act (List Hushed)
@@ -120,10 +116,9 @@ onTo (found.To d) silence s = onIf (hasMute d) d silence s
 onTo found.Nothing silence s = got s
 
 -- every peer but the fader itself is silenced
-unfoldable pub soloOn : Rig → ℕ → ℕ → ℕ → List Hushed → Act (List Hushed)
-soloOn r group fader zero s t = got s t
-soloOn r group fader (suc n) s t =
-    next (soloOn r group fader n s t) (λ k. onTo (peer r group (n + 1)) (not (eqb (n + 1) fader)) k)
+unfoldable pub soloOn : (ℕ → Found) → ℕ → ℕ → List Hushed → Act (List Hushed)
+soloOn of fader zero s t = got s t
+soloOn of fader (suc n) s t = next (soloOn of fader n s t) (λ k. onTo (of (n + 1)) (not (eqb (n + 1) fader)) k)
 
 -- the lamps' state and the silenced levels after a solo
 pub record Soloed : Type 0 where
@@ -134,11 +129,11 @@ abbrev pub soloed : Rig → Lamps → List Hushed → Act Soloed
 soloed r l s t = got (record { lamps = l; silenced = s }) (pushState r l (targetsOf s) t)
 
 abbrev pub turnOff : Rig → ℕ → Lamps → List Hushed → Act Soloed
-turnOff r group l s = soloOff r group l 16 s >>= λ k. soloed r (soloTo 0 (noneNoted l)) k
+turnOff r group l s = soloOff (peer r group) l 16 s >>= λ k. soloed r (soloTo 0 (noneNoted l)) k
 
 abbrev pub turnOn : Rig → ℕ → ℕ → Lamps → List Hushed → Act Soloed
 turnOn r group fader l s =
-    noteIf (eqb (l .soloed) 0) r group s l >>= λ n. soloOn r group fader 16 s >>= λ k. soloed r (soloTo fader n) k
+    noteIf (eqb (l .soloed) 0) (peer r group) (targetsOf s) l >>= λ n. soloOn (peer r group) fader 16 s >>= λ k. soloed r (soloTo fader n) k
 
 abbrev pub soloIf : Bool → Rig → ℕ → ℕ → Lamps → List Hushed → Act Soloed
 soloIf true r group fader l s = turnOff r group l s
@@ -158,27 +153,26 @@ abbrev pub isSame : ℕ → ℕ → Bool
 isSame a b = eqb b a
 
 -- the target joins those that are added, unless it is silenced or added already
-abbrev pub addTarget : Bool → ℕ → List Hushed → List ℕ → List ℕ
-addTarget true target s l = l
-addTarget false target s l = pick (isHushed target (targetsOf s)) l (change (isSame target) (λ x. x) target l)
+abbrev pub addTarget : Bool → ℕ → List ℕ → List ℕ → List ℕ
+addTarget true target ts l = l
+addTarget false target ts l = pick (isHushed target ts) l (change (isSame target) (λ x. x) target l)
 
-abbrev pub adding : Found → List Hushed → List ℕ → List ℕ
-adding (found.To d) s l = addTarget (hasMute d) (keptBy d) s l
-adding found.Nothing s l = l
+abbrev pub adding : Found → List ℕ → List ℕ → List ℕ
+adding (found.To d) ts l = addTarget (hasMute d) (keptBy d) ts l
+adding found.Nothing ts l = l
 
 -- the targets that the peers 1 to n of a fader add to those silenced, each once
-unfoldable pub soloAdds : Rig → ℕ → ℕ → List Hushed → ℕ → List ℕ
-soloAdds r group fader s zero = []
-soloAdds r group fader s (suc n) =
-    adding (pick (eqb (n + 1) fader) found.Nothing (peer r group (n + 1))) s (soloAdds r group fader s n)
+unfoldable pub soloAdds : (ℕ → Found) → ℕ → List ℕ → ℕ → List ℕ
+soloAdds of fader ts zero = []
+soloAdds of fader ts (suc n) = adding (pick (eqb (n + 1) fader) found.Nothing (of (n + 1))) ts (soloAdds of fader ts n)
 
-abbrev pub addsTo : Found → Rig → ℕ → Lamps → List Hushed → List ℕ
-addsTo (found.To d) r fader l s = pick (eqb (l .soloed) fader) [] (soloAdds r (d .group) fader s 16)
-addsTo found.Nothing r fader l s = []
+abbrev pub addsTo : Found → Rig → ℕ → Lamps → List ℕ → List ℕ
+addsTo (found.To d) r fader l ts = pick (eqb (l .soloed) fader) [] (soloAdds (peer r (d .group)) fader ts 16)
+addsTo found.Nothing r fader l ts = []
 
 -- "the distinct others this press adds at any moment"
-unfoldable pub addedBySolo : Rig → ℕ → Lamps → List Hushed → List ℕ
-addedBySolo r fader l s = addsTo (destination r fader) r fader l s
+unfoldable pub addedBySolo : Rig → ℕ → Lamps → List ℕ → List ℕ
+addedBySolo r fader l ts = addsTo (destination r fader) r fader l ts
 
-unfoldable pub addedByMute : Rig → ℕ → List Hushed → List ℕ
-addedByMute r fader s = adding (destination r fader) s []
+unfoldable pub addedByMute : Rig → ℕ → List ℕ → List ℕ
+addedByMute r fader ts = adding (destination r fader) ts []

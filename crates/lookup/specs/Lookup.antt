@@ -1,5 +1,7 @@
 -- What each lookup finds. Definitions only. A part is a bank, by its number, or the globals, 255.
-use Prim.Native.Nat.{ℕ}
+use Prim.Native.Nat.{ℕ, _≤_}
+use mathlib.Core.Path.{_≡_}
+use mathlib.Core.Logic.{_⊎_}
 use mathlib.Core.Bool.{Bool, _&&_, Bool·beq}
 use mathlib.Core.List.{List, [], _∷_}
 use mathlib.Core.Option.{Option, none, some}
@@ -212,6 +214,10 @@ topAt l i = all (length l) (λ j. leb (times (getD l j 0) l) (times (getD l i 0)
 abbrev pub valueAt : List ℕ → Place → ℕ
 valueAt l (At i) = getD l i 0
 valueAt l Nothing = 65535
+
+-- a driver's number, or that of none
+abbrev pub MayBeDriver : ℕ → Type 0
+MayBeDriver n = (n ≤ 255) ⊎ (n ≡ 65535)
 
 -- "most_common (first of the most frequent)"; 65535 if the list is empty
 unfoldable pub mostCommon : List ℕ → ℕ

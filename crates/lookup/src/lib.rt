@@ -4,7 +4,7 @@ ghost use mathlib.Core.List.{_∷_, [], _++_};
 ghost use Prim.Native.Nat.{_+_, _<_, _≤_};
 ghost use lib.ListN.{length, getD};
 ghost use Rattle.profile.specs.Profile.{records, bankCount, verdict};
-ghost use Rattle.lookup.specs.Lookup.{positionsOf, rememberOf, isEntry, entry, ofPart, halfOf, byteOf, bankAt, nameOf, deviceOf, liveOf, recOf, selectOf, bankNamed, destAt, faderOf, encoderPlace, precede, sameDest, scenesOf, position, buttonOf, commandAt, entryAt, transportsOf, transportOf, before, ofKind, place, merged, seenEntries, seenDrivers, times, mostCommon};
+ghost use Rattle.lookup.specs.Lookup.{positionsOf, rememberOf, isEntry, entry, ofPart, halfOf, byteOf, bankAt, nameOf, deviceOf, liveOf, recOf, selectOf, bankNamed, destAt, faderOf, encoderPlace, precede, sameDest, scenesOf, position, buttonOf, commandAt, entryAt, transportsOf, transportOf, before, ofKind, place, merged, seenEntries, seenDrivers, times, mostCommon, MayBeDriver};
 ghost use Rattle.base.specs.Keyed.{at};
 
 // The name number of what is not there.
@@ -485,6 +485,7 @@ fn times_in(drivers: Drivers, x: u8) -> usize
 
 fn wide(driver: u8) -> u16
     ensures { λ r. ⌜ r ≡ driver ⌝ }
+    ensures { λ r. ⌜ r ≤ 255 ⌝ }
 {
     driver as u16
 }
@@ -493,6 +494,7 @@ fn wide(driver: u8) -> u16
 pub fn most_common(drivers: Drivers) -> u16
     requires { ⌜ drivers .count ≤ 16 ⌝ }
     ensures { λ r. ⌜ r ≡ mostCommon (seenDrivers drivers) ⌝ }
+    ensures { λ r. ⌜ MayBeDriver r ⌝ }
 {
     let n = drivers.count;
     if n == 0 {

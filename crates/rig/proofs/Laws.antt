@@ -1,5 +1,6 @@
 -- The bank's own faders, counted up one at a time: their drivers, and the first target on a driver. Assumes nothing.
 use mathlib.Core.Path.{_≡_, refl}
+use mathlib.Core.Logic.{_⊎_, inl, inr}
 use mathlib.Core.Bool.{Bool, true, false, not}
 use mathlib.Core.List.{List, [], _++_, append-nil}
 use mathlib.Core.Option.{none, some}
@@ -11,6 +12,7 @@ use lib.ListN.{length, take, set}
 use lib.Seq.{take-suc-set}
 use borrow.Author.Tests.{ltb-true, ltb-false}
 use Rattle.base.specs.Choice.{pick}
+use Rattle.lookup.specs.Lookup.{MayBeDriver}
 use Rattle.lookup.specs.declared.Destination.{Destination}
 use Rattle.lookup.specs.declared.Found.{Found}
 use Rattle.lookup.specs.declared.Found.the-variants as found
@@ -21,6 +23,11 @@ use Rattle.definition.specs.Buttons.{orAbsent}
 pub not-is : (b : Bool) → not b ≡ pick b false true
 not-is true = refl
 not-is false = refl
+
+-- what an accepted profile names as a bank's driver
+pub low-driver : (own : ℕ) {n : ℕ} → (n ≤ 15) ⊎ (n ≡ 65535) → own ≡ n → MayBeDriver own
+low-driver own (inl h) e = inl (omega arith)
+low-driver own (inr h) e = inr (omega arith)
 
 -- ── what a fader adds to the drivers so far ──
 

@@ -5,7 +5,8 @@ use lookup::Found;
 ghost use mathlib.Core.Path.{_≡_};
 ghost use mathlib.Core.List.{_++_};
 ghost use Prim.Native.Nat.{_+_, _≤_, _<_};
-ghost use Rattle.lookup.specs.Lookup.{seenDrivers};
+ghost use Rattle.profile.specs.Profile.{verdict};
+ghost use Rattle.lookup.specs.Lookup.{seenDrivers, MayBeDriver};
 ghost use Rattle.definition.specs.Rig.{ownFader, destination as destinationOf, driverIn, bankDriver, device as deviceOf, isOf, targetIn, firstTarget};
 ghost use Rattle.definition.specs.Buttons.{orAbsent};
 ghost use Rattle.rig.specs.Seen.{hereIn, rigIn};
@@ -54,6 +55,7 @@ fn with_driver(drivers: Drivers, to: Found) -> Drivers
 pub fn bank_driver(profile: &[u8], here: Current) -> u16
     requires { ⌜ here .strips .count ≤ 8 ⌝ }
     ensures { λ r. ⌜ r ≡ bankDriver (hereIn (now (profile .entry)) here) ⌝ }
+    ensures { λ r. ⌜ MayBeDriver r ⌝ }
 {
     let mut t = Drivers {
         list: [0; 16],
@@ -69,8 +71,10 @@ pub fn bank_driver(profile: &[u8], here: Current) -> u16
 
 // The driver of this bank's device: its own, else the one most of its faders use.
 pub fn device(profile: &[u8], here: Current) -> u16
+    requires { ⌜ verdict (now profile) ≡ 0 ⌝ }
     requires { ⌜ here .strips .count ≤ 8 ⌝ }
     ensures { λ r. ⌜ r ≡ deviceOf (hereIn (now (profile .entry)) here) ⌝ }
+    ensures { λ r. ⌜ MayBeDriver r ⌝ }
 {
     let own = lookup::device_of(profile, here.bank);
     if own == 65535 {

@@ -1,6 +1,7 @@
 -- `lookup::most_common` meets its contract. Assumes nothing.
 use Prim.Native.Nat.{_≤_, _-_}
-use mathlib.Core.Path.{_≡_, sym, _∙_}
+use mathlib.Core.Path.{_≡_, refl, sym, _∙_}
+use mathlib.Core.Logic.{inl, inr}
 use native.Mathlib.Omega.{arith}
 use lib.ListN.{length}
 use borrow.Author.Needs.{needs}
@@ -20,7 +21,7 @@ abbrev μ-loop : tie.MeasureT-loop
 returns : tie.Need-returns Inv-loop μ-loop
 returns c = let s = c .before .args .t1 in
     let l : length (s .list) ≡ 16 = search laws.long in
-    none-common (seenDrivers s) (length-take-le (s .count) (s .list) (omega arith) ∙ c .if1 .taken)
+    (none-common (seenDrivers s) (length-take-le (s .count) (s .list) (omega arith) ∙ c .if1 .taken), inr refl)
 
 element-copy-out-best : tie.Need-element-copy-out-best Inv-loop μ-loop
 element-copy-out-best c = search needs
@@ -64,7 +65,7 @@ returns-2 : tie.Need-returns-2 Inv-loop μ-loop
 returns-2 c = let s = c .before .before .before .before .before .before .args .t1 in
     let l : length (s .list) ≡ 16 = search (laws.long, c .before .before .before .before .before .before .good) in
     let h : s .count ≤ length (s .list) = omega arith in
-    c .wide .ensures ∙ best-done (seenDrivers s) (c .before .before .loop .i) _ _ (c .before .before .loop .inv .1) (omega (arith, length-take-le (s .count) (s .list) h))
+    (c .wide .ensures .0 ∙ best-done (seenDrivers s) (c .before .before .loop .i) _ _ (c .before .before .loop .inv .1) (omega (arith, length-take-le (s .count) (s .list) h)), inl (c .wide .ensures .1))
 
 pub most-common-spec : {M : Type 1} → statement M
 most-common-spec =

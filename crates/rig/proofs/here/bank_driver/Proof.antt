@@ -41,7 +41,7 @@ returns : tie.Need-returns Inv-loop μ-loop
 unfolding bankDriver
 returns c = let at = c .before .before .loop in
     let e : at .n ≡ 16 = omega arith in
-    c .most-common .ensures ∙ ap mostCommon (at .inv .0 ∙ ap (ownDrivers _) e)
+    (c .most-common .ensures .0 ∙ ap mostCommon (at .inv .0 ∙ ap (ownDrivers _) e), c .most-common .ensures .1)
 
 pub bank-driver-spec : {M : Type 1} → statement M
 bank-driver-spec =

@@ -33,8 +33,8 @@ use Rattle.definition.specs.Scenes.{paged, Started, namesOn, namesIf, sceneName
 use Rattle.definition.specs.Banks.{selectIf, selectBank, nextBank, stepIf, stepBank}
 use Rattle.definition.specs.Buttons.{Press, Pressed, pressed, ofBank, ofScene, offered, offeredIf, defaultOf, defaultButton, runBound, runElse, runCommand, recIf, recLoads, bankOf, page, walk, command, recAs, rec, selectAs, muteAs, soloAs, orFirst, pressOf, button}
 use Rattle.bounds.specs.Drivers.{MayTo, MayAll, one-entry}
-use Rattle.bounds.proofs.Spending.{Rules, Costs, Takes, stay, more, still, done, giving, line-of, upTo, behind, onto, ontoSo, bind, takes-open, takes-use, takes-done, takes-read, takes-readMute, takes-writeOf, takes-write}
-use Rattle.bounds.proofs.Surface.{muted-takes, push-costs, number-takes, flashBank-takes}
+use Rattle.bounds.specs.Spending.{Rules, Costs, Takes, stay, more, still, done, giving, line-of, upTo, behind, onto, ontoSo, bind, takes-open, takes-use, takes-done, takes-read, takes-readMute, takes-writeOf, takes-write}
+use Rattle.bounds.specs.Surface.{muted-takes, push-costs, number-takes, flashBank-takes}
 
 -- a command's driver may be used
 abbrev pub MayBound : (ℕ → Type 0) → Bound → Type 0

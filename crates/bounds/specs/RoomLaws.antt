@@ -22,9 +22,9 @@ use Rattle.event.specs.declared.Input.the-variants as input
 use Rattle.event.specs.declared.Timed.{Timed}
 use Rattle.definition.specs.Step.{Kept, Left, Ended, done, finish, stepIf, refusal, act, step}
 use Rattle.bounds.specs.Room.{IsDriver, shut, Sound, Within, Room, FewOf}
-use Rattle.bounds.proofs.Spending.{Rules, Spent, spending}
-use Rattle.bounds.proofs.Surface.{endCost}
-use Rattle.bounds.proofs.Events.{act-takes, messageCost, callCost}
+use Rattle.bounds.specs.Spending.{Rules, Spent, spending}
+use Rattle.bounds.specs.Surface.{endCost}
+use Rattle.bounds.specs.Events.{act-takes, messageCost, callCost}
 
 -- ── drivers that are not open ──
 

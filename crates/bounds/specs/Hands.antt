@@ -30,8 +30,8 @@ use Rattle.definition.specs.Levels.{read, write}
 use Rattle.definition.specs.Faders.{Desk, faderIf, faderTo, fader, keyOf, nudgeFrom, isZero, nudgeIf, applyNudge, nudges, alignIf, writeMove, writes, drain}
 use Rattle.definition.specs.Live.{changeIf, askIf, refreshLive, refreshDue, sameAs, handed}
 use Rattle.bounds.specs.Drivers.{MayTo, Each, no-more, one-more, MayTurn, MayStrip}
-use Rattle.bounds.proofs.Spending.{Rules, Costs, Takes, stay, says, more, after, still, done, giving, line-of, onto, bind, takes-use, takes-read, takes-write}
-use Rattle.bounds.proofs.Surface.{push-costs}
+use Rattle.bounds.specs.Spending.{Rules, Costs, Takes, stay, says, more, after, still, done, giving, line-of, onto, bind, takes-use, takes-read, takes-write}
+use Rattle.bounds.specs.Surface.{push-costs}
 
 -- ── a live list's drivers ──
 

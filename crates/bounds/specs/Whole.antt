@@ -33,10 +33,10 @@ use Rattle.definition.specs.Step.{Kept, seen, done, refused, Stepped, stepped, 
 use Rattle.definition.specs.Whole.{whole, offered}
 use Rattle.bounds.specs.Drivers.{Each, no-more, one-more}
 use Rattle.bounds.specs.Well.{WiredTurn, WellStrips, Well}
-use Rattle.bounds.proofs.WellLive.{no-strips}
-use Rattle.bounds.proofs.WellRoom.{well-few}
-use Rattle.bounds.proofs.WellStep.{step-well}
-use Rattle.bounds.proofs.Channels.{read-low}
+use Rattle.bounds.specs.WellLive.{no-strips}
+use Rattle.bounds.specs.WellRoom.{well-few}
+use Rattle.bounds.specs.WellStep.{step-well}
+use Rattle.bounds.specs.Channels.{read-low}
 
 -- ── what number 8 lets pass is well shaped as it is seen ──
 

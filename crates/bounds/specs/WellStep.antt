@@ -31,14 +31,14 @@ use Rattle.definition.specs.Shape.{shapedFlash}
 use Rattle.definition.specs.Step.{Kept, Left, left, rigNow, pressAt, onButton, onMidi, unmarkedAt, livesAfter, siteAfter, tickWith, tick, act, overfull, finish, stepIf, refusal, step, seen, freshKept}
 use Rattle.bounds.specs.Room.{LowEvent, LowInput}
 use Rattle.bounds.specs.Well.{WellStrips, Well}
-use Rattle.bounds.proofs.Profiles.{accepted-sound}
-use Rattle.bounds.proofs.Room.{act-room}
-use Rattle.bounds.proofs.WellFlash.{Shaped, bank-gives, tick-gives}
-use Rattle.bounds.proofs.WellPress.{Settled, button-fine}
-use Rattle.bounds.proofs.WellLive.{WellLives, no-strips, refresh-well, set-well}
-use Rattle.bounds.proofs.WellDesk.{WellDesk, fader-well, encoder-well, unmarked-well, unmarkedAt-well, no-turns, drained-well}
-use Rattle.bounds.proofs.WellRoom.{well-within}
-use Rattle.bounds.proofs.Silencing.{silenced-so}
+use Rattle.bounds.specs.Profiles.{accepted-sound}
+use Rattle.bounds.specs.RoomLaws.{act-room}
+use Rattle.bounds.specs.WellFlash.{Shaped, bank-gives, tick-gives}
+use Rattle.bounds.specs.WellPress.{Settled, button-fine}
+use Rattle.bounds.specs.WellLive.{WellLives, no-strips, refresh-well, set-well}
+use Rattle.bounds.specs.WellDesk.{WellDesk, fader-well, encoder-well, unmarked-well, unmarkedAt-well, no-turns, drained-well}
+use Rattle.bounds.specs.WellRoom.{well-within}
+use Rattle.bounds.specs.Silencing.{silenced-so}
 
 -- ── what an event leaves ──
 

@@ -31,7 +31,7 @@ use Rattle.definition.specs.Levels.{read, hasMute}
 use Rattle.definition.specs.Lamps.{sendLevel, positionFor, pushPosition, mutedIf, mutedTo, isMuted, fourLamps, pushFader, pushFaders, pushState, Player, isPlayer, meetIf, lampFor, pushBound}
 use Rattle.definition.specs.Flash.{phases, phasesTo, sendHome, finishIf, finishFlash, showNumber, flashNumber, flashBank, sentUpTo, endIf, tickIf, tickFlash}
 use Rattle.bounds.specs.Drivers.{MayTo, MayAll, one-entry}
-use Rattle.bounds.proofs.Spending.{Rules, Costs, Takes, stay, says, more, after, still, done, giving, upTo, behind, onto, bind, takes-use, takes-read, takes-readMute}
+use Rattle.bounds.specs.Spending.{Rules, Costs, Takes, stay, says, more, after, still, done, giving, upTo, behind, onto, bind, takes-use, takes-read, takes-readMute}
 
 -- what the end of a flash costs, of which so many phases are sent
 abbrev pub endCost : Bool → ℕ → ℕ

@@ -13,9 +13,9 @@ use Rattle.drivers.specs.declared.Call.{Call}
 use Rattle.event.specs.declared.Timed.{Timed}
 use Rattle.definition.specs.Step.{Kept, Left, done, waiting, finish, finished, stepIf, refusal, step}
 use Rattle.bounds.specs.Longer.{Again, run, asked, GoesOn}
-use Rattle.bounds.proofs.Events.{act-takes}
-use Rattle.bounds.proofs.Used.{any-view, any-kept}
-use Rattle.bounds.proofs.Steady.{gotMore, Longer, steady-rules, steady-by}
+use Rattle.bounds.specs.Events.{act-takes}
+use Rattle.bounds.specs.Used.{any-view, any-kept}
+use Rattle.bounds.specs.Steady.{gotMore, Longer, steady-rules, steady-by}
 
 module _ (v : View) (k : Kept) (e : Timed) (answers : List ℕ) where
   -- any event, with one answer more or several

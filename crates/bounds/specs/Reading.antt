@@ -13,7 +13,7 @@ use Rattle.base.specs.Words.{le16, le32, le64}
 use Rattle.drivers.specs.Answers.{countAt, itemAt, itemsOf, itemFits, liveFits, listIf, sceneList, liveList, toRead, toPlaying, toScenes, toCurrent, toLive, answerTo, answerOf, itemCount, isUnfit}
 use Rattle.drivers.specs.declared.Answer.{Answer}
 use Rattle.drivers.specs.declared.Answer.the-variants as answer
-use Rattle.bounds.proofs.Used.{long}
+use Rattle.bounds.specs.Used.{long}
 
 -- the same of every number below n
 all-same : (n : ℕ) (p q : ℕ → Bool) → ((i : ℕ) → i < n → p i ≡ q i) → all n p ≡ all n q

@@ -28,8 +28,8 @@ use Rattle.event.specs.declared.Timed.{Timed}
 use Rattle.definition.specs.Step.{Kept, Left, Ended, done, finish, stepIf, refusal, act, step}
 use Rattle.bounds.specs.Bounds.{UsedOf}
 use Rattle.bounds.specs.Drivers.{MayTo, MayAll, no-entry, one-entry, Each, no-more, one-more, MayTurn, MayStrip, MayView, MayKept}
-use Rattle.bounds.proofs.Spending.{Rules, Spent, spending}
-use Rattle.bounds.proofs.Events.{act-takes}
+use Rattle.bounds.specs.Spending.{Rules, Spent, spending}
+use Rattle.bounds.specs.Events.{act-takes}
 
 -- ── an answer that fits is there with all its items ──
 

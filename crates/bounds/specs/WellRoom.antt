@@ -25,9 +25,9 @@ use Rattle.definition.specs.Step.{Kept, act, step, done}
 use Rattle.bounds.specs.Drivers.{Each, no-more, one-more, MayTurn, MayStrip}
 use Rattle.bounds.specs.Room.{IsDriver, Within}
 use Rattle.bounds.specs.Well.{Wired, WiredTurn, Well}
-use Rattle.bounds.proofs.Profiles.{accepted-sound}
-use Rattle.bounds.proofs.Room.{never-overrun, few-within}
-use Rattle.bounds.proofs.WellFlash.{shaped-playing}
+use Rattle.bounds.specs.Profiles.{accepted-sound}
+use Rattle.bounds.specs.RoomLaws.{never-overrun, few-within}
+use Rattle.bounds.specs.WellFlash.{shaped-playing}
 
 good-may : (l : List Strip) → allOf goodStrip l ≡ true → Each (MayStrip IsDriver) l
 unfolding allOf

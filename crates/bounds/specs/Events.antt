@@ -30,10 +30,10 @@ use Rattle.definition.specs.Faders.{drain}
 use Rattle.definition.specs.Live.{Refreshed, refreshDue, isDue}
 use Rattle.definition.specs.Step.{Kept, rigAt, rigNow, pressAt, onButton, onMidi, afterTick, flashTick, tickWith, tick, act}
 use Rattle.bounds.specs.Drivers.{MayTo, MayAll, no-entry, one-entry, Each, no-more, one-more, MayStrip, MayView, MayKept}
-use Rattle.bounds.proofs.Spending.{Rules, Takes, still, done, giving, upTo, behind, bind, bindSo}
-use Rattle.bounds.proofs.Surface.{endCost, push-costs, flashBank-takes, tickFlash-takes, bound-costs}
-use Rattle.bounds.proofs.Hands.{strip-may, with-may, fader-takes, drain-costs, refresh-takes, refresh-leaves}
-use Rattle.bounds.proofs.Presses.{MayRig, button-takes}
+use Rattle.bounds.specs.Spending.{Rules, Takes, still, done, giving, upTo, behind, bind, bindSo}
+use Rattle.bounds.specs.Surface.{endCost, push-costs, flashBank-takes, tickFlash-takes, bound-costs}
+use Rattle.bounds.specs.Hands.{strip-may, with-may, fader-takes, drain-costs, refresh-takes, refresh-leaves}
+use Rattle.bounds.specs.Presses.{MayRig, button-takes}
 
 -- ── the drivers of a bank ──
 

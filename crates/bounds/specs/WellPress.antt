@@ -22,7 +22,7 @@ use Rattle.definition.specs.Muting.{peer, noteMutes, noteIf, soloIf, soloWith, 
 use Rattle.definition.specs.Scenes.{Started, placed, loadedIf, loadAtIf, loadSceneAt, startIf, start, shownIf, pageIf, stepSceneIf, stepScene, sceneIf, scene, isAt, nextScene, sceneOnDevice, sceneNames, loadOn}
 use Rattle.definition.specs.Banks.{Selected, selectIf, selectBank, nextBank, stepIf, stepBank}
 use Rattle.definition.specs.Buttons.{Press, Pressed, bankOf, page, walk, command, recAs, rec, selectAs, muteAs, soloAs, orFirst, pressOf, button, recLoads}
-use Rattle.bounds.proofs.WellFlash.{Shaped, number-gives, bank-gives}
+use Rattle.bounds.specs.WellFlash.{Shaped, number-gives, bank-gives}
 
 -- ── solo and scenes ──
 

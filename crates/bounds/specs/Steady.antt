@@ -16,9 +16,9 @@ use Rattle.drivers.specs.Talk.{Stop, going, waits, declined, overrun, Talk, Got
 use Rattle.drivers.specs.declared.Call.{Call}
 use Rattle.drivers.specs.declared.Answer.{Answer}
 use Rattle.bounds.specs.Longer.{Starts, Again}
-use Rattle.bounds.proofs.Spending.{Rules, Takes}
-use Rattle.bounds.proofs.Used.{items-there, Any}
-use Rattle.bounds.proofs.Reading.{answer-same, count-as, items-same}
+use Rattle.bounds.specs.Spending.{Rules, Takes}
+use Rattle.bounds.specs.Used.{items-there, Any}
+use Rattle.bounds.specs.Reading.{answer-same, count-as, items-same}
 
 -- the same line with more answers behind those that are left
 abbrev pub withMore : List ℕ → Talk → Talk

@@ -6,13 +6,15 @@ use rig::Current;
 use session::Lamps;
 use surface::flash::Flashed;
 ghost use mathlib.Core.Path.{_≡_};
-ghost use Prim.Native.Nat.{_+_, _≤_, _<_};
+ghost use mathlib.Core.Bool.{true};
+ghost use Prim.Native.Nat.{_≤_, _<_};
 ghost use lib.ListN.{take};
 ghost use Rattle.profile.specs.Profile.{bankCount};
 ghost use Rattle.drivers.specs.Talk.{got};
 ghost use Rattle.drivers.specs.Shown.{shown};
 ghost use Rattle.definition.specs.Banks.{nextBank};
 ghost use Rattle.rig.specs.Seen.{rigIn};
+ghost use Rattle.surface.specs.Home.{hasNote};
 ghost use Rattle.banks.specs.Steps.{seenSelected, ShowsBank, Selects, Steps};
 
 // The current bank after a press, the lamps' state, and whether a bank was selected.
@@ -39,7 +41,7 @@ pub fn flash_bank(
 ) -> Flashed
     requires { ⌜ here .strips .count ≤ 8 ⌝ }
     requires { ⌜ hushed ≤ 256 ⌝ }
-    requires { ⌜ lamps .flash .base + lamps .flash .column ≤ 255 ⌝ }
+    requires { ⌜ hasNote (lamps .flash) ≡ true ⌝ }
     ensures { λ r. ⌜ ShowsBank (rigIn (now (profile .entry)) here) lamps (take hushed (now (targets .entry))) home time (shown (now (answers .entry)) io (now (calls .entry)) (now (messages .entry))) (got (r .lamps) (shown (now (answers .entry)) (r .io) (now (calls .exit)) (now (messages .exit)))) ⌝ }
 {
     let n = here.bank as usize;
@@ -75,7 +77,7 @@ pub fn select_bank(
 ) -> Selected
     requires { ⌜ there .strips .count ≤ 8 ⌝ }
     requires { ⌜ hushed ≤ 256 ⌝ }
-    requires { ⌜ lamps .flash .base + lamps .flash .column ≤ 255 ⌝ }
+    requires { ⌜ hasNote (lamps .flash) ≡ true ⌝ }
     ensures { λ r. ⌜ Selects (rigIn (now (profile .entry)) there) lamps (take hushed (now (targets .entry))) home time (shown (now (answers .entry)) io (now (calls .entry)) (now (messages .entry))) (got (seenSelected r) (shown (now (answers .entry)) (r .io) (now (calls .exit)) (now (messages .exit)))) ⌝ }
 {
     let u = surface::lamps::push_state(
@@ -146,7 +148,7 @@ pub fn step_bank(
 ) -> Selected
     requires { ⌜ there .strips .count ≤ 8 ⌝ }
     requires { ⌜ hushed ≤ 256 ⌝ }
-    requires { ⌜ lamps .flash .base + lamps .flash .column ≤ 255 ⌝ }
+    requires { ⌜ hasNote (lamps .flash) ≡ true ⌝ }
     ensures { λ r. ⌜ Steps (bankCount (now (profile .entry))) bank (rigIn (now (profile .entry)) there) lamps (take hushed (now (targets .entry))) home time (shown (now (answers .entry)) io (now (calls .entry)) (now (messages .entry))) (got (seenSelected r) (shown (now (answers .entry)) (r .io) (now (calls .exit)) (now (messages .exit)))) ⌝ }
 {
     if there.bank == bank {

@@ -1,14 +1,15 @@
 -- An event that was read from bytes has a fader's channel of 0 to 15 only, "the low four" bits of the status, and turns of -191 to 63.
 use Prim.Native.Nat.{ℕ, zero, suc, _/_, _-_, _≤_, _<_}
-use mathlib.Core.Path.{_≡_, subst}
+use mathlib.Core.Path.{_≡_, refl, subst}
 use mathlib.Core.Bool.{Bool, true, false, _&&_}
 use mathlib.Core.List.{List, [], _∷_}
 use native.Mathlib.Omega.{arith}
 use lib.Dec.{eqb, leb, ltb}
 use lib.ListN.{length, getD, take, drop}
 use lib.IntN.{pos, negℤ}
-use borrow.Author.Tests.{le-leb}
+use borrow.Author.Tests.{le-leb, ltb-true}
 use Rattle.base.specs.Choice.{pick}
+use Rattle.base.specs.RangeLaws.{and-right}
 use Rattle.protocol.specs.Protocol.{deltaOf, eventOf, decodeOf}
 use Rattle.protocol.specs.declared.Event.{Event}
 use Rattle.event.specs.Event.{eventOk, messageOf, inputOf, timedOf, readOf}
@@ -19,8 +20,8 @@ use Rattle.event.specs.declared.Read.the-variants.{Known, Unknown}
 use Rattle.definition.specs.Faders.{inRange}
 use Rattle.bounds.specs.Room.{LowEvent, LowInput}
 
-pick-event : (b : Bool) (x y : Event) → LowEvent x → LowEvent y → LowEvent (pick b x y)
-pick-event true x y h k = h
+pick-event : (b : Bool) (x y : Event) → (b ≡ true → LowEvent x) → LowEvent y → LowEvent (pick b x y)
+pick-event true x y h k = h refl
 pick-event false x y h k = k
 
 pick-input : (b : Bool) (x y : Input) → LowInput x → LowInput y → LowInput (pick b x y)
@@ -39,6 +40,9 @@ delta-low b h = go (ltb b 0x40)
     go : (c : Bool) → inRange (pick c (pos b) (negℤ (pos (b - 0x40)))) ≡ true
     go true = le-leb b 1000000 (omega (arith, h))
     go false = left-low (b - 0x40) (omega (arith, h))
+
+encoder-low : (a : ℕ) → ltb a 0x18 ≡ true → a - 0x10 < 8
+encoder-low a e = omega (arith, ltb-true a 0x18 e)
 
 -- ── bytes ──
 
@@ -60,9 +64,12 @@ drop-bytes (suc n) (x ∷ l) h = drop-bytes n l (λ i. h (suc i))
 
 event-low : (n status a b : ℕ) → b < 256 → LowEvent (eventOf n status a b)
 event-low n status a b h =
-    pick-event (eqb (status / 16) 0xe && leb 3 n) _ _ (omega arith)
-    (pick-event (eqb (status / 16) 0xb && (leb 3 n && (leb 0x10 a && ltb a 0x18))) _ _ (delta-low b h)
-    (pick-event (eqb (status / 16) 0x9 && leb 3 n) _ _ tt (pick-event (eqb (status / 16) 0x8 && leb 2 n) _ _ tt tt)))
+    pick-event (eqb (status / 16) 0xe && leb 3 n) _ _ (λ e. omega arith)
+    (pick-event (eqb (status / 16) 0xb && (leb 3 n && (leb 0x10 a && ltb a 0x18))) _ _ (λ e. (encoder-low a (turned e), delta-low b h))
+    (pick-event (eqb (status / 16) 0x9 && leb 3 n) _ _ (λ e. tt) (pick-event (eqb (status / 16) 0x8 && leb 2 n) _ _ (λ e. tt) tt)))
+  where
+    turned : (eqb (status / 16) 0xb && (leb 3 n && (leb 0x10 a && ltb a 0x18))) ≡ true → ltb a 0x18 ≡ true
+    turned e = and-right (leb 0x10 a) (ltb a 0x18) (and-right (leb 3 n) _ (and-right (eqb (status / 16) 0xb) _ e))
 
 decoded-low : (m : List ℕ) → Bytes m → LowEvent (decodeOf m)
 unfolding decodeOf

@@ -54,10 +54,10 @@ FewOf (done ms cs used saved) = (length ms ≤ 102) × (length cs ≤ 337)
 FewOf (refused why) = Unit {0}
 FewOf (waiting c) = Unit {0}
 
--- a fader's channel is 0 to 15, and a turn is by no more than a sum may be: all that the bytes of a message can say
+-- a fader's channel is 0 to 15, an encoder's 0 to 7, and a turn is by no more than a sum may be: all that the bytes of a message can say
 abbrev pub LowEvent : Event → Type 0
 LowEvent (event.Fader ch value) = ch < 16
-LowEvent (event.Encoder ch delta) = inRange delta ≡ true
+LowEvent (event.Encoder ch delta) = (ch < 8) × (inRange delta ≡ true)
 LowEvent (event.Button b) = Unit {0}
 LowEvent event.Other = Unit {0}
 

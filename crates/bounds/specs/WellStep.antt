@@ -97,7 +97,7 @@ module _ (p : List ℕ) (yes : verdict p ≡ 0) (k : Kept) (well : Well p k) whe
   midi-well : (e : Event) (now : Float) (t : Talk) → LowEvent e → refusal (input.Midi e) v k now ≡ 0 → WellLeft p ((onMidi e v k now t) .value)
   unfolding next refusal
   midi-well (event.Fader ch x) now t low r = with-desk (fader-well p (rigNow v k) ch x (k .desk) t desk-is low)
-  midi-well (event.Encoder ch n) now t low r = with-desk (encoder-well p (k .site .lives) (k .site .bank) ch n (k .desk) desk-is low r)
+  midi-well (event.Encoder ch n) now t low r = with-desk (encoder-well p (k .site .lives) (k .site .bank) ch n (k .desk) desk-is (low .1) r)
   midi-well (event.Button b) now t low r = button-well (b .pressed) now (b .note) t r
   midi-well event.Other now t low r = with-desk desk-is
 

@@ -2,4 +2,5 @@ pub mod Answers
 pub mod Talk
 pub mod Shown
 pub mod Bytes
+pub mod BytesLaws
 pub mod Paired

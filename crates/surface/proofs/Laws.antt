@@ -1,12 +1,14 @@
 -- The channels and the phases of a flash counted up one at a time, and a flash from what its calls promise. Assumes nothing.
-use mathlib.Core.Path.{_≡_, refl, sym, ap, _∙_}
+use mathlib.Core.Path.{_≡_, refl, sym, ap, subst, _∙_}
 use mathlib.Core.Bool.{Bool, true, false, _&&_}
 use mathlib.Core.List.{List}
 use Prim.Native.Nat.{ℕ, suc, _+_, _-_, _/_, _≤_, _<_, max}
 use native.Mathlib.Numerals.{add-one}
 use native.Mathlib.Omega.{arith}
+use lib.Dec.{leb}
 use lib.Ieee.{Float}
-use borrow.Author.Tests.{le-leb, lt-leb}
+use borrow.Author.Tests.{le-leb, lt-leb, leb-true}
+use Rattle.base.specs.Choice.{pick}
 use Rattle.float.specs.Leaf.{f0, dueOf, flashOver}
 use Rattle.protocol.specs.Protocol.{sentTo}
 use Rattle.drivers.specs.Talk.{Talk, got, send}
@@ -19,7 +21,7 @@ use Rattle.definition.specs.Rig.{Rig}
 use Rattle.definition.specs.Lamps.{sendLevel, orFalse, pushFader, pushFaders, pushState}
 use Rattle.definition.specs.Flash.{phaseLed, phases, phasesTo, sendHome, finishIf, finishFlash, flashOf, flashNumber, sentUpTo, tickIf, tickFlash}
 use Rattle.rig.specs.Seen.{muteIf}
-use Rattle.surface.specs.Home.{IsHome, Finishes, Shows, Plays}
+use Rattle.surface.specs.Home.{hasNote, IsHome, Finishes, Shows, Plays}
 
 -- a mute that cannot be read counts as off
 pub muted-is : (known muted : Bool) → (known && muted) ≡ orFalse (muteIf known muted)
@@ -69,10 +71,12 @@ pub sent-before : (f : Flash) (due : ℕ) → due ≤ f .sent → f ≡ sentUpTo
 sent-before f due l = let e : max (f .sent) due ≡ f .sent = omega arith in rw e
 
 -- a flash keeps its lamp
-pub note-kept : (l k : Lamps) (f : Flash) (due : ℕ) → f ≡ sentUpTo due (l .flash) → k ≡ flashing f l → l .flash .base + l .flash .column ≤ 255 →
-    k .flash .base + k .flash .column ≤ 255
+pub note-kept : (l k : Lamps) (f : Flash) (due : ℕ) → f ≡ sentUpTo due (l .flash) → k ≡ flashing f l → hasNote (l .flash) ≡ true → hasNote (k .flash) ≡ true
 unfolding flashing
 note-kept l k f due q w h = rw (w, q) h
+
+pub note-of : (f : Flash) → hasNote f ≡ true → f .on ≡ true → f .base + f .column ≤ 255
+note-of f h e = leb-true (f .base + f .column) 255 (subst (λ (b : Bool). pick b (leb (f .base + f .column) 255) true ≡ true) e h)
 
 -- ── a flash: home is the last move of its row's fader ──
 

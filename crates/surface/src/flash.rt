@@ -7,13 +7,14 @@ use rig::Current;
 use session::Flash;
 use session::Lamps;
 ghost use mathlib.Core.Path.{_≡_};
+ghost use mathlib.Core.Bool.{true};
 ghost use Prim.Native.Nat.{_+_, _≤_};
 ghost use lib.ListN.{take};
 ghost use Rattle.drivers.specs.Talk.{got};
 ghost use Rattle.drivers.specs.Shown.{shown};
 ghost use Rattle.definition.specs.Flash.{phaseLed, phasesTo, sentUpTo};
 ghost use Rattle.rig.specs.Seen.{rigIn};
-ghost use Rattle.surface.specs.Home.{Finishes, Shows, Plays};
+ghost use Rattle.surface.specs.Home.{hasNote, Finishes, Shows, Plays};
 
 pub struct Flashed {
     pub io: Io,
@@ -71,7 +72,7 @@ pub fn finish_flash(
 ) -> Io
     requires { ⌜ here .strips .count ≤ 8 ⌝ }
     requires { ⌜ hushed ≤ 256 ⌝ }
-    requires { ⌜ lamps .flash .base + lamps .flash .column ≤ 255 ⌝ }
+    requires { ⌜ hasNote (lamps .flash) ≡ true ⌝ }
     ensures { λ r. ⌜ Finishes (rigIn (now (profile .entry)) here) lamps (take hushed (now (targets .entry))) home (shown (now (answers .entry)) io (now (calls .entry)) (now (messages .entry))) (shown (now (answers .entry)) r (now (calls .exit)) (now (messages .exit))) ⌝ }
 {
     let flash = lamps.flash;
@@ -111,7 +112,7 @@ pub fn flash_number(
 ) -> Flashed
     requires { ⌜ here .strips .count ≤ 8 ⌝ }
     requires { ⌜ hushed ≤ 256 ⌝ }
-    requires { ⌜ lamps .flash .base + lamps .flash .column ≤ 255 ⌝ }
+    requires { ⌜ hasNote (lamps .flash) ≡ true ⌝ }
     requires { ⌜ base ≤ 8 ⌝ }
     ensures { λ r. ⌜ Shows (rigIn (now (profile .entry)) here) lamps (take hushed (now (targets .entry))) home time n base (shown (now (answers .entry)) io (now (calls .entry)) (now (messages .entry))) (got (r .lamps) (shown (now (answers .entry)) (r .io) (now (calls .exit)) (now (messages .exit)))) ⌝ }
 {
@@ -174,7 +175,7 @@ pub fn tick_flash(
 ) -> Flashed
     requires { ⌜ here .strips .count ≤ 8 ⌝ }
     requires { ⌜ hushed ≤ 256 ⌝ }
-    requires { ⌜ lamps .flash .base + lamps .flash .column ≤ 255 ⌝ }
+    requires { ⌜ hasNote (lamps .flash) ≡ true ⌝ }
     ensures { λ r. ⌜ Plays (rigIn (now (profile .entry)) here) lamps (take hushed (now (targets .entry))) home time (shown (now (answers .entry)) io (now (calls .entry)) (now (messages .entry))) (got (r .lamps) (shown (now (answers .entry)) (r .io) (now (calls .exit)) (now (messages .exit)))) ⌝ }
 {
     let flash = lamps.flash;

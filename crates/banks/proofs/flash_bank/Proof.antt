@@ -1,3 +1,4 @@
+use native.Mathlib.Omega.{arith}
 use Rattle.banks.proofs.Laws.{shows-bank}
 use borrow.Author.Needs.{needs}
 use Rattle.banks.proofs.flash_bank.Statement.{statement}
@@ -7,7 +8,8 @@ cast-n : tie.Need-cast-n
 cast-n c = search needs
 
 flash-number-requires : tie.Need-flash-number-requires
-flash-number-requires c κs = search needs
+flash-number-requires c κs = let b = c .before .before .before .before .before in
+    (b .pre .0, (b .pre .1 .0, (b .pre .1 .1, omega arith)))
 
 returns : tie.Need-returns
 returns c = shows-bank _ _ _ _ _ _ _ (c .flash-number .ensures)

@@ -4,7 +4,7 @@ use native.Mathlib.Omega.{arith}
 use lib.ListN.{length}
 use Rattle.drivers.specs.Talk.{next}
 use Rattle.session.specs.SessionLaws.{targets-seen}
-use Rattle.mutes.proofs.Laws.{room-at}
+use Rattle.mutes.specs.HeldLaws.{room-at}
 use Rattle.definition.specs.Muting.{mute}
 use borrow.Author.Needs.{needs}
 use Rattle.mutes.proofs.mute.Statement.{statement}

@@ -1,5 +1,5 @@
 use lib.ListN.{take}
-use Rattle.mutes.proofs.Laws.{is-hushed, not-hushed, room-for}
+use Rattle.mutes.specs.HeldLaws.{is-hushed, not-hushed, room-for}
 use borrow.Author.Needs.{needs}
 use Rattle.mutes.proofs.mute_at.Statement.{statement}
 use Rattle.mutes.proofs.mute_at.Tie as tie

@@ -1,6 +1,6 @@
 use native.Mathlib.Omega.{arith}
 use Rattle.float.specs.LeafLaws.{due-most}
-use Rattle.surface.proofs.Laws.{no-tick, plays, plays-out, note-kept}
+use Rattle.surface.proofs.Laws.{note-of, no-tick, plays, plays-out, note-kept}
 use borrow.Author.Tests.{not-true, not-false}
 use borrow.Author.Needs.{needs}
 use Rattle.surface.proofs.flash.tick_flash.Statement.{statement}
@@ -17,7 +17,8 @@ cast-due c = let a = c .before .before .before .before .before .before .args in
     omega (arith, c .due .ensures, due-most (a .time) (a .lamps .flash .start))
 
 send-phases-requires : tie.Need-send-phases-requires
-send-phases-requires c κs = search needs
+send-phases-requires c κs = let b = c .before .before .before .before .before .before .before .before in
+    note-of (b .args .lamps .flash) (b .pre .1 .1) (not-false _ (c .before .before .before .if1 .left))
 
 sent-up-to-requires : tie.Need-sent-up-to-requires
 sent-up-to-requires c κs = search needs

@@ -58,7 +58,7 @@ channels (m ∷ l) e =
     let h : m .channel ≤ 15 = leb-true (m .channel) 15 (left-of (leb (m .channel) 15) (allOf lowChannel l) e) in
     rw (lt-ltb (m .channel) 16 (omega arith)) (channels l (right-of (leb (m .channel) 15) (allOf lowChannel l) e))
 
-line-well : (l : Line) → shapedLine l ≡ true → WellLine (seenLine l)
+pub line-well : (l : Line) → shapedLine l ≡ true → WellLine (seenLine l)
 unfolding shapedLine
 line-well l e = record { low = channels (seenLine l) (every-at _ 1 e); once = every-at _ 2 e }
 
@@ -66,7 +66,7 @@ line-well l e = record { low = channels (seenLine l) (every-at _ 1 e); once = ev
 abbrev stripTests : Strips → List Bool
 stripTests s = leb (s .count) 8 ∷ allOf goodStrip (take (s .count) (s .list)) ∷ noTwice sameNumber (take (s .count) (s .list)) ∷ []
 
-strips-well : (s : Strips) → shapedStrips s ≡ true → WellStrips (stripsOr (seenStrips s))
+pub strips-well : (s : Strips) → shapedStrips s ≡ true → WellStrips (stripsOr (seenStrips s))
 unfolding shapedStrips seenStrips
 strips-well s e = go (s .known) e
   where
@@ -80,7 +80,7 @@ strips-well s e = go (s .known) e
         }
     go false h = no-strips
 
-lives-well : (l : List Strips) → allOf shapedStrips l ≡ true → (b : ℕ) → WellStrips (stripsOr (getD (map seenStrips l) b none))
+pub lives-well : (l : List Strips) → allOf shapedStrips l ≡ true → (b : ℕ) → WellStrips (stripsOr (getD (map seenStrips l) b none))
 unfolding allOf
 lives-well [] e b = no-strips
 lives-well (s ∷ l) e zero = strips-well s (left-of (shapedStrips s) (allOf shapedStrips l) e)

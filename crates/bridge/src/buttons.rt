@@ -288,6 +288,8 @@ fn hush(
         let l = m.lamps;
         return unmoved(u, here.bank, l, m.hushed);
     }
+    // Lent as a slice, the levels are known to have all their places: each of the silenced targets has one.
+    let ls: &[f64] = levels;
     let m = mutes::mute(
         answers,
         calls,
@@ -433,6 +435,8 @@ pub fn button(
     ensures { λ r. ⌜ Presses (buttonOf (b .note)) (now (profile .entry)) here there lamps (hushedUpTo hushed (now (targets .entry)) (now (levels .entry))) home time (shown (now (answers .entry)) io (now (calls .entry)) (now (messages .entry))) r (hushedUpTo (r .hushed) (now (targets .exit)) (now (levels .exit))) (shown (now (answers .entry)) (r .io) (now (calls .exit)) (now (messages .exit))) ⌝ }
     ensures { λ r. ⌜ r .hushed ≤ 256 ⌝ }
 {
+    // Lent as a slice, the levels are known to have all their places: each of the silenced targets has one.
+    let ls: &[f64] = levels;
     let kind = b.kind();
     match kind {
         6 | 7 => page(

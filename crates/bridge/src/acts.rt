@@ -344,6 +344,8 @@ pub fn run(
 {
     let time = e.time;
     let what = e.what;
+    // Lent as a slice, the levels are known to have all their places: each of the targets silenced has one.
+    let ls: &[f64] = levels;
     match what {
         Input::Midi(m) => on_midi(
             answers,

@@ -17,6 +17,7 @@ use session::Line;
 use session::Live;
 use session::Moves;
 use session::Session;
+use session::Silenced;
 use session::Turns;
 use which::Hand;
 ghost use mathlib.Core.Path.{_≡_};
@@ -92,13 +93,15 @@ fn on_fader(
     requires { ⌜ channel < 16 ⌝ }
     ensures { λ r. ⌜ MovesAs (now (profile .entry)) session channel value (now (answers .entry)) (now (messages .entry)) (now (calls .entry)) r (now (messages .exit)) (now (calls .exit)) ⌝ }
 {
-    let here = current_bank(session.live, session.bank);
+    let live = session.live;
+    let here = current_bank(live, session.bank);
     let k = (session.bank as usize) * 16 + (channel as usize);
     let last = session::last_move(session.moves, k);
     let mark = session::is_marked(session.marks, k);
     let mut cs = [0u8; 5392];
     let mut ms = [0u8; 306];
-    let io = drivers::fresh(session.opened);
+    let opened = session.opened;
+    let io = drivers::fresh(opened);
     let f = hands::faders::fader(
         answers,
         &mut cs,
@@ -121,8 +124,8 @@ fn on_fader(
             session: session,
         };
     }
-    let opened = e.opened;
-    let t = after::faded(session, verdict, k, channel, value, opened);
+    let open = e.opened;
+    let t = after::faded(session, verdict, k, channel, value, open);
     Stepped {
         outcome: o,
         session: t,
@@ -147,18 +150,25 @@ fn on_encoder(session: Session, profile: &[u8], channel: u8, delta: i32) -> Step
         };
     };
     let k = at as u16;
-    let mut turns = session.turns;
+    let turns = session.turns;
     let n = turns.count;
-    let why = hands::encoders::turn_declined(profile, &turns.records, &turns.sums, n, k, delta);
+    let mut records = turns.records;
+    let mut sums = turns.sums;
+    let why = hands::encoders::turn_declined(profile, &records, &sums, n, k, delta);
     if why != 0 {
         return Stepped {
             outcome: Outcome::Refused(why),
             session: session,
         };
     }
-    turns.count = session::turned(profile, &mut turns.records, &mut turns.sums, n, k, delta);
+    let count = session::turned(profile, &mut records, &mut sums, n, k, delta);
+    let turned = Turns {
+        records: records,
+        sums: sums,
+        count: count,
+    };
     let mut t = session;
-    t.turns = turns;
+    t.turns = turned;
     let o = nothing();
     Stepped {
         outcome: o,
@@ -191,16 +201,9 @@ fn drain(
         return io;
     }
     let n = turns.count;
-    let u = hands::encoders::drain_turns(
-        answers,
-        calls,
-        messages,
-        io,
-        profile,
-        &turns.records,
-        &turns.sums,
-        n,
-    );
+    let records = turns.records;
+    let sums = turns.sums;
+    let u = hands::encoders::drain_turns(answers, calls, messages, io, profile, &records, &sums, n);
     hands::encoders::drain_line(answers, calls, messages, u, profile, here, line)
 }
 
@@ -259,11 +262,16 @@ fn talk(
     let here = current_bank(session.live, session.bank);
     let there = current_bank(session.live, at.after);
     let lamps = session.lamps;
-    let home = home_of(session.moves, lamps.flash, at.after);
+    let flash = lamps.flash;
+    let home = home_of(session.moves, flash, at.after);
     let silenced = session.silenced;
+    let hushed = silenced.count;
     let mut cs = [0u8; 5392];
     let mut ms = [0u8; 306];
-    let io = drivers::fresh(session.opened);
+    let opened = session.opened;
+    let io = drivers::fresh(opened);
+    let line = session.line;
+    let turns = session.turns;
     let u = drain(
         answers,
         &mut cs,
@@ -271,8 +279,8 @@ fn talk(
         io,
         profile,
         here,
-        session.line,
-        session.turns,
+        line,
+        turns,
         at.ticks,
     );
     let left = acts::run(
@@ -287,7 +295,7 @@ fn talk(
         lamps,
         targets,
         levels,
-        silenced.count,
+        hushed,
         home,
         e,
     );
@@ -307,18 +315,15 @@ fn overfull(session: Session, profile: &[u8], e: Timed) -> bool
     requires { ⌜ runs (e .what) ≡ true ⌝ }
     ensures { λ r. ⌜ pick r 11 0 ≡ refusal (e .what) (viewOf (now (profile .entry))) (seen (now (profile .entry)) session) (e .time) ⌝ }
 {
-    let here = current_bank(session.live, session.bank);
+    let live = session.live;
+    let here = current_bank(live, session.bank);
     let silenced = session.silenced;
     let hushed = silenced.count;
-    let press = which::press_of(e.what);
-    let added = which::added_by(
-        profile,
-        here,
-        session.lamps,
-        &silenced.targets,
-        hushed,
-        press,
-    );
+    let what = e.what;
+    let press = which::press_of(what);
+    let lamps = session.lamps;
+    let targets = silenced.targets;
+    let added = which::added_by(profile, here, lamps, &targets, hushed, press);
     256 < hushed + added
 }
 
@@ -345,14 +350,16 @@ fn on_other(
         };
     }
     let at = setting_of(session, profile, e);
-    let mut silenced = session.silenced;
+    let silenced = session.silenced;
+    let mut targets = silenced.targets;
+    let mut levels = silenced.levels;
     let t = talk(
         session,
         profile,
         e,
         at,
-        &mut silenced.targets,
-        &mut silenced.levels,
+        &mut targets,
+        &mut levels,
         answers,
         messages,
         calls,
@@ -366,9 +373,13 @@ fn on_other(
         };
     }
     let left = t.left;
-    silenced.count = left.hushed;
+    let hushed = Silenced {
+        targets: targets,
+        levels: levels,
+        count: left.hushed,
+    };
     let opened = f.opened;
-    let s = after::after(session, at, left, silenced, opened, e.time);
+    let s = after::after(session, at, left, hushed, opened, e.time);
     Stepped {
         outcome: o,
         session: s,

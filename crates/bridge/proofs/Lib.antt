@@ -1,0 +1,7 @@
+pub mod Fit
+pub mod ButtonsLaws
+pub mod PressLaws
+pub mod ActsLaws
+pub mod HandLaws
+pub mod StepLaws
+pub mod TalkLaws

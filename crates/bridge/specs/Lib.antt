@@ -1,0 +1,4 @@
+pub mod Presses
+pub mod Which
+pub mod Acts
+pub mod Bridge

@@ -134,7 +134,7 @@ module _ (p : List ℕ) (s : Session) (e : wellShaped p s ≡ true) where
 
 -- ── and back: a session within its places that is seen well shaped is so ──
 
-low-again : (l : List Move) → allOf laws.lowChannel l ≡ true → allOf lowChannel l ≡ true
+pub low-again : (l : List Move) → allOf laws.lowChannel l ≡ true → allOf lowChannel l ≡ true
 unfolding allOf
 low-again [] e = refl
 low-again (m ∷ l) e =

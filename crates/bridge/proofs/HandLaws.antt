@@ -1,8 +1,8 @@
 -- The current bank is the definition's, an encoder's turn and a fader's move end as the definition's do, and what they leave passes number 8 again.
 -- Assumes nothing.
-use Prim.Native.Nat.{ℕ, zero, suc, _+_, _*_, _-_, _/_, _≤_, _<_}
+use Prim.Native.Nat.{ℕ, zero, suc, _+_, _*_, _-_, _≤_, _<_}
 use mathlib.Core.Path.{_≡_, refl, sym, ap, _∙_, subst}
-use mathlib.Core.Bool.{Bool, true, false, _||_, not, cond, true≢false}
+use mathlib.Core.Bool.{_&&_, Bool, true, false, _||_, not, cond, true≢false}
 use mathlib.Core.List.{List, [], _∷_, map}
 use mathlib.Core.Option.{Option, none, some}
 use native.Mathlib.Omega.{arith}
@@ -13,7 +13,7 @@ use lib.ListN.{length, getD, take}
 use lib.Seq.{length-take-le}
 use mir.Syntax.{w32}
 use mir.Val.{SFits}
-use borrow.Author.Tests.{le-leb, leb-true, leb-false, ltb-true, lt-ltb, ne-eqb}
+use borrow.Author.Tests.{leb-true, leb-false, ltb-true, lt-ltb, ne-eqb}
 use Rattle.base.specs.Choice.{pick}
 use Rattle.base.specs.Range.{every}
 use Rattle.base.specs.RangeLaws.{and-left, every-at}
@@ -29,30 +29,27 @@ use Rattle.lookup.specs.Lookup.{destAt, foundAt, encoderOf, precede, encoderPla
 use Rattle.lookup.specs.LookupLaws.{encoder-place-found, encoder-place-is}
 use Rattle.lookup.specs.View.{viewOf}
 use Rattle.lookup.specs.declared.Found.{Found}
-use Rattle.drivers.specs.Talk.{Stop, going, waits, declined, overrun, Talk, Got, got, next, start}
+use Rattle.drivers.specs.Talk.{Talk, Got, got, next, start}
 use Rattle.drivers.specs.Bytes.{joined, encode}
-use Rattle.drivers.specs.Shown.{callsIn, messagesIn, stopIn, shown}
+use Rattle.drivers.specs.Shown.{shown}
 use Rattle.drivers.specs.declared.Io.{Io}
 use Rattle.drivers.specs.declared.Level.{Level}
 use Rattle.session.specs.Session.{Turn, turnAt, seenTurns, isEncoder, wiresTo, isDest, turn, RoomToTurn, isMarked, lastMove, seenLine, seenStrips, stripsAt}
-use Rattle.session.specs.SessionLaws as lows
-use Rattle.session.specs.declared.Move.{Move}
 use Rattle.session.specs.declared.Session.{Session}
 use Rattle.session.specs.declared.Turns.{Turns}
 use Rattle.session.specs.declared.Strips.{Strips}
 use Rattle.session.specs.declared.Live.{Live}
 use Rattle.definition.specs.Rig.{Rig, destination, encoderDest}
 use Rattle.definition.specs.Faders.{Desk, desk, inRange, declinedBy, turnTo, encoder, refusalTo, turnRefusal, faderTo, fader}
-use Rattle.definition.specs.Shape.{lowChannel, goodStrip, sameNumber, shapedStrips, goodTurn, wellShaped}
-use Rattle.definition.specs.Step.{finished, Kept, Ended, done, refused, Stepped, stepped, seen, rigAt, withDesk, act, refusal, finish, stepIf, step}
+use Rattle.definition.specs.Shape.{goodStrip, sameNumber, shapedStrips, goodTurn, wellShaped}
+use Rattle.definition.specs.Step.{Kept, Left, Ended, done, refused, Stepped, stepped, seen, rigAt, withDesk, act, refusal, stepIf, step}
 use Rattle.rig.specs.Seen.{rigIn}
 use Rattle.rig.specs.declared.Current.{Current}
 use Rattle.hands.specs.Sums.{SumsFit}
 use Rattle.hands.specs.Verdicts.{leftBy}
 use Rattle.hands.specs.Verdicts as verdicts
 use Rattle.hands.specs.declared.Verdict.{Verdict}
-use Rattle.delivery.specs.Delivery.{outcomeOf, isDone, messagesAfter, callsAfter, endIf, endOf, HasRoom, Ends}
-use Rattle.delivery.specs.DeliveryLaws.{calls-length, messages-length}
+use Rattle.delivery.specs.Delivery.{outcomeOf, isDone, messagesAfter, callsAfter, endOf, HasRoom, Ends}
 use Rattle.delivery.specs.declared.Outcome.{Outcome}
 use Rattle.delivery.specs.declared.Outcome.the-variants as outcome
 use Rattle.delivery.specs.declared.End.{End}
@@ -60,9 +57,9 @@ use Rattle.after.specs.After.{keptWith, KeepsPlaces}
 use Rattle.after.specs.After as after
 use Rattle.bounds.specs.Well.{Well}
 use Rattle.bounds.specs.Whole.{well-seen}
-use Rattle.bounds.specs.WellRoom.{well-few}
 use Rattle.bounds.specs.WellStep.{step-well}
 use Rattle.bridge.specs.Bridge.{IsCurrent, movedAt, turnedAt, Moves, Turns as TurnsAs}
+use Rattle.bridge.proofs.StepLaws.{did, room-for, undone-delivers, done-delivers}
 use Rattle.bridge.proofs.Fit.{places, shaped-again}
 
 -- ── the current bank ──
@@ -292,39 +289,7 @@ module _ (p : List ℕ) (s : Session) (ch : ℕ) (delta : ℤ) where
           calls = refl;
         })
 
--- ── the line: a channel below 16 is at most 15 ──
-
-pub low-line : (l : List Move) → allOf lows.lowChannel l ≡ true → allOf lowChannel l ≡ true
-unfolding allOf
-low-line [] e = refl
-low-line (m ∷ l) e =
-    let h : m .channel < 16 = ltb-true (m .channel) 16 (left-of (ltb (m .channel) 16) (allOf lows.lowChannel l) e) in
-    rw (le-leb (m .channel) 15 (omega arith)) (low-line l (right-of (ltb (m .channel) 16) (allOf lows.lowChannel l) e))
-
 -- ── a fader ──
-
--- how a move ends, by the line's stop: nothing is saved
-module _ (p : List ℕ) (k : Kept) (d : Desk) (u : Talk) where
-  abbrev moveEnds : Stop → Stepped
-  moveEnds stop = finish stop (viewOf p) k (got (withDesk k d) u)
-
-  ended-is : (stop : Stop) → moveEnds stop .ended ≡ endIf stop u false
-  ended-is going = refl
-  ended-is (waits c) = refl
-  ended-is declined = refl
-  ended-is overrun = refl
-
-  undone-is : (stop : Stop) → isDone (endIf stop u false) ≡ false → k ≡ moveEnds stop .kept
-  undone-is going q = absurd (true≢false q)
-  undone-is (waits c) q = refl
-  undone-is declined q = refl
-  undone-is overrun q = refl
-
-  done-is : (stop : Stop) → isDone (endIf stop u false) ≡ true → keptWith (withDesk k d) (u .opened) ≡ moveEnds stop .kept
-  done-is going q = refl
-  done-is (waits c) q = absurd (true≢false (sym q))
-  done-is declined q = absurd (true≢false (sym q))
-  done-is overrun q = absurd (true≢false (sym q))
 
 module _ (p : List ℕ) (s : Session) (ch : ℕ) (value : Float) (answers : List ℕ) (c : Current) (i : IsCurrent (s .live) (s .bank) c) (mark : Bool) (last : Level)
     (m : mark ≡ isMarked (s .bank * 16 + ch) (s .marks)) (l : last ≡ lastMove (s .bank * 16 + ch) (s .moves)) (t : Talk) (b : t ≡ start answers (s .opened))
@@ -344,57 +309,47 @@ module _ (p : List ℕ) (s : Session) (ch : ℕ) (value : Float) (answers : List
       ∙ ap (λ (u : Talk). faderTo (destination (rigIn p c) (ch + 1)) (s .bank * 16 + ch) ch value (seen p s .desk) u) (sym b)
       ∙ sym (f (s .bank * 16 + ch) ch (seen p s .desk) (sym m) (sym l))
 
-  -- and its event
-  move-is : (now : Float) → step (viewOf p) (seen p s) (movedAt now ch value) answers ≡ moveEnds p (seen p s) left line (line .stop)
-  unfolding step refusal act next seen
-  move-is now = ap (λ (g : Got Desk). finished (viewOf p) (seen p s) (next g (λ d. got (withDesk (seen p s) d)))) fader-is
+  -- and its event, at any time
+  did-is : (now : Float) → did (viewOf p) (seen p s) (movedAt now ch value) answers ≡ got (withDesk (seen p s) left) line
+  unfolding act next seen
+  did-is now = ap (λ (g : Got Desk). next g (λ d. got (withDesk (seen p s) d))) fader-is
+
+  free : (now : Float) → refusal (movedAt now ch value .what) (viewOf p) (seen p s) now ≡ 0
+  unfolding refusal
+  free now = refl
+
+  -- nothing is saved
+  end-is : (now : Float) →
+      endOf ((did (viewOf p) (seen p s) (movedAt now ch value) answers) .talk) ((did (viewOf p) (seen p s) (movedAt now ch value) answers) .value .saved && viewOf p .remember)
+      ≡ endOf line false
+  end-is now = ap (λ (g : Got Left). endOf (g .talk) (g .value .saved && viewOf p .remember)) (did-is now)
 
   module _ (accepted : verdict p ≡ 0) (e : wellShaped p s ≡ true) (long : length (s .opened) ≡ 16) (low : ch < 16) where
     -- a line that goes on has room, whatever the event's time is
     pub move-room : HasRoom io
-    unfolding shown
-    move-room going-on = let h = few in (omega (arith, h .0, messages-length (io .sent) ms), omega (arith, h .1, calls-length (io .asked) cs))
-      where
-        few : (length (messagesIn (io .sent) ms) ≤ 102) × (length (callsIn (io .asked) cs) ≤ 337)
-        few =
-            well-few p accepted (seen p s) (well-seen p s long e) (movedAt value ch value) answers (messagesIn (io .sent) ms) (callsIn (io .asked) cs) (io .read / 16) false
-            (ap (λ (x : Stepped). x .ended) (move-is value) ∙ ended-is p (seen p s) left line (line .stop) ∙ ap (λ (n : ℕ). endIf (stopIn n (io .due)) line false) going-on)
+    move-room =
+        room-for p accepted (seen p s) (well-seen p s long e) (movedAt value ch value) answers (free value) io cs ms
+        (sym (ap (λ (g : Got Left). g .talk) (did-is value)))
 
     module _ (r : End) (ms₀ cs₀ ms₁ cs₁ : List ℕ) (h : Ends io cs ms false r ms₀ cs₀ ms₁ cs₁) where
-      ends-so : (now : Float) → step (viewOf p) (seen p s) (movedAt now ch value) answers .ended ≡ endOf line false
-      ends-so now = ap (λ (x : Stepped). x .ended) (move-is now) ∙ ended-is p (seen p s) left line (line .stop)
-
       -- one that waits or is refused
       pub unmoved : r .done ≡ false → Moves p s ch value answers ms₀ cs₀ (record { outcome = r .outcome; session = s }) ms₁ cs₁
       unmoved q now =
-          let no : isDone (endOf line false) ≡ false = sym (h .done answers) ∙ q in
-          record {
-            outcome = h .outcome answers ∙ ap outcomeOf (sym (ends-so now));
-            session = undone-is p (seen p s) left line (line .stop) no ∙ ap (λ (x : Stepped). x .kept) (sym (move-is now));
-            still = λ _. refl;
-            shaped = λ _. e;
-            messages = h .messages answers ∙ ap (λ (x : Ended). messagesAfter x ms₀) (sym (ends-so now));
-            calls = h .calls answers ∙ ap (λ (x : Ended). callsAfter x cs₀) (sym (ends-so now));
-          }
+          undone-delivers p accepted s (well-seen p s long e) (movedAt now ch value) answers (free now) (r .outcome) ms₀ cs₀ ms₁ cs₁
+          (ap isDone (end-is now) ∙ sym (h .done answers) ∙ q) (h .outcome answers ∙ ap outcomeOf (sym (end-is now)))
+          (h .messages answers ∙ ap (λ (x : Ended). messagesAfter x ms₀) (sym (end-is now)))
+          (h .calls answers ∙ ap (λ (x : Ended). callsAfter x cs₀) (sym (end-is now)))
 
       -- one that is done
       pub moved : r .done ≡ true → (x : Session) → after.Fades s v (s .bank * 16 + ch) ch value (r .opened) x → KeepsPlaces s x →
           Moves p s ch value answers ms₀ cs₀ (record { outcome = r .outcome; session = x }) ms₁ cs₁
       unfolding shown
       moved q x fades keeps now =
-          let so : isDone (endOf line false) ≡ true = sym (h .done answers) ∙ q in
-          let z : seen p x ≡ step (viewOf p) (seen p s) (movedAt now ch value) answers .kept =
-          fades p
+          done-delivers p accepted s (well-seen p s long e) (movedAt now ch value) answers (free now) low (r .outcome) x ms₀ cs₀ ms₁ cs₁
+          (ap isDone (end-is now) ∙ sym (h .done answers) ∙ q)
+          (fades p
           ∙ ap (λ (o : List Bool). keptWith (withDesk (seen p s) left) o) (h .opened)
-          ∙ done-is p (seen p s) left line (line .stop) so
-          ∙ ap (λ (y : Stepped). y .kept) (sym (move-is now)) in
-          let w : Well p (step (viewOf p) (seen p s) (movedAt now ch value) answers .kept) =
-          step-well p accepted (seen p s) (well-seen p s long e) (movedAt now ch value) low answers in
-          record {
-            outcome = h .outcome answers ∙ ap outcomeOf (sym (ends-so now));
-            session = z;
-            still = λ no. absurd (true≢false (sym so ∙ ap isDone (sym (ends-so now)) ∙ no));
-            shaped = λ _. shaped-again p x (subst (λ (y : Kept). Well p y) (sym z) w) (keeps p (places p s e));
-            messages = h .messages answers ∙ ap (λ (y : Ended). messagesAfter y ms₀) (sym (ends-so now));
-            calls = h .calls answers ∙ ap (λ (y : Ended). callsAfter y cs₀) (sym (ends-so now));
-          }
+          ∙ ap (λ (g : Got Left). keptWith (g .value) (g .talk .opened)) (sym (did-is now)))
+          (keeps p (places p s e)) (h .outcome answers ∙ ap outcomeOf (sym (end-is now)))
+          (h .messages answers ∙ ap (λ (y : Ended). messagesAfter y ms₀) (sym (end-is now)))
+          (h .calls answers ∙ ap (λ (y : Ended). callsAfter y cs₀) (sym (end-is now)))

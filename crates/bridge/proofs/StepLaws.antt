@@ -54,7 +54,7 @@ use Rattle.bridge.proofs.Fit.{shaped-again}
 
 module _ (v : View) (k : Kept) (e : Timed) (answers : List ℕ) where
   -- what it does
-  abbrev did : Got Left
+  abbrev pub did : Got Left
   did = act (e .what) v k (e .time) (start answers (k .opened))
 
   pub step-runs : refusal (e .what) v k (e .time) ≡ 0 → step v k e answers ≡ finished v k did

@@ -1,7 +1,7 @@
 -- `bridge::drain` meets its contract. Assumes nothing.
 use borrow.Author.Needs.{needs}
 use borrow.Author.Tests.{not-true, not-false}
-use Rattle.bridge.proofs.HandLaws.{low-line}
+use Rattle.bridge.proofs.Fit.{low-again}
 use Rattle.bridge.proofs.drain.Statement.{statement}
 use Rattle.bridge.proofs.drain.Tie as tie
 
@@ -14,7 +14,7 @@ drain-turns-requires c κs = search needs
 drain-line-requires : tie.Need-drain-line-requires
 drain-line-requires c κs =
     let b = c .before .before .before .before .before .before .before .before .before .before .before .before in
-    (b .pre .0, (b .pre .1 .0, low-line _ (b .pre .1 .1 .0)))
+    (b .pre .0, (b .pre .1 .0, low-again _ (b .pre .1 .1 .0)))
 
 returns-2 : tie.Need-returns-2
 returns-2 c =

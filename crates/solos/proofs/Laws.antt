@@ -26,6 +26,7 @@ use Rattle.definition.specs.Muting.{Soloed, inGroup, peer, offTo, soloOff, note
 use Rattle.definition.specs.SilencingLaws.{Within, Covered, grown, any-both, adding-covers, adding-more, soloOn-so, room-within, once-keys}
 use Rattle.mutes.specs.Held.{roomFor}
 use Rattle.mutes.specs.HeldLaws.{room-for}
+use Rattle.solos.proofs.AddsLaws.{peer-at, same-adds}
 use Rattle.solos.specs.Peers.{foundOf, nobody, seenPeers, ArePeers, roomTo, soloedAs}
 use Rattle.solos.specs.Turns.{noteTo, turnedOver}
 use Rattle.solos.specs.declared.peers.Peer.{Peer}
@@ -41,14 +42,9 @@ blank =
       dest = record { driver = 0; target = 0; label = 0; group = 0; mute = 0; takeover = false; low = nan; high = nan };
     }
 
-within : {A : Type 0} (xs : List A) (n : ℕ) (d e : A) → n < length xs → getD xs n d ≡ getD xs n e
-within [] n d e h = absurd (omega arith)
-within (x ∷ xs) zero d e h = refl
-within (x ∷ xs) (suc n) d e h = within xs n d e (omega arith)
-
 -- the peer at place n has number n + 1
 pub numbered : (p : Peers) (n : ℕ) → n < length (p .list) → foundOf (getD (p .list) n blank) ≡ seenPeers p (n + 1)
-numbered p n h = let e : (n + 1) - 1 ≡ n = omega arith in rw (e, within (p .list) n blank nobody h)
+numbered p n h = peer-at p n blank h
 
 pub none-yet : (f g : ℕ → Found) (i : ℕ) → 1 ≤ i → i ≤ 0 → f i ≡ g i
 none-yet f g i low high = absurd (omega arith)
@@ -236,11 +232,6 @@ module _ (f g : ℕ → Found) where
   unfolding soloOn next
   same-on fader zero h s t = refl
   same-on fader (suc n) h s t = rw (same-on fader n (λ i a b. h i a (omega arith)) s t, h (n + 1) (omega arith) (omega arith))
-
-  same-adds : (fader : ℕ) (ts : List ℕ) (n : ℕ) → Agree n → soloAdds f fader ts n ≡ soloAdds g fader ts n
-  unfolding soloAdds
-  same-adds fader ts zero h = refl
-  same-adds fader ts (suc n) h = rw (same-adds fader ts n (λ i a b. h i a (omega arith)), h (n + 1) (omega arith) (omega arith))
 
   same-note : (b : Bool) (ts : List ℕ) → Agree 16 → (l : Lamps) (t : Talk) → noteIf b f ts l t ≡ noteIf b g ts l t
   same-note true ts h l t = same-noted ts 16 h l t

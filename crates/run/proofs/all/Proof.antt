@@ -1,0 +1,83 @@
+-- `run::all` meets its contract. Assumes nothing.
+use Prim.Native.Nat.{_≤_, _-_}
+use lib.ListN.{length}
+use borrow.Author.Needs.{needs}
+use Rattle.run.proofs.all.Statement.{statement}
+use Rattle.run.proofs.all.Tie as tie
+
+abbrev Inv-loop : tie.InvT-loop
+Inv-loop profile events answers s₀ from₀ read₀ n₀ s from read n = (from ≤ length events) × (read ≤ length answers) × (n ≤ from)
+
+abbrev μ-loop : tie.MeasureT-loop
+μ-loop profile events answers s₀ from₀ read₀ n₀ s from read n = length events - from
+
+fresh-requires : tie.Need-fresh-requires Inv-loop μ-loop
+fresh-requires c κs = search needs
+
+loop-holds : tie.Need-loop-holds Inv-loop μ-loop
+loop-holds c = search needs
+
+end-of-requires : tie.Need-end-of-requires Inv-loop μ-loop
+end-of-requires c κs = search needs
+
+sub-one : tie.Need-sub-one Inv-loop μ-loop
+sub-one c = search needs
+
+part-one-start : tie.Need-part-one-start Inv-loop μ-loop
+part-one-start c = search needs
+
+part-one-end : tie.Need-part-one-end Inv-loop μ-loop
+part-one-end c = search needs
+
+sub-one-2 : tie.Need-sub-one-2 Inv-loop μ-loop
+sub-one-2 c = search needs
+
+part-one-start-2 : tie.Need-part-one-start-2 Inv-loop μ-loop
+part-one-start-2 c = search needs
+
+part-one-end-2 : tie.Need-part-one-end-2 Inv-loop μ-loop
+part-one-end-2 c = search needs
+
+one-requires : tie.Need-one-requires Inv-loop μ-loop
+one-requires c κs = search needs
+
+returns : tie.Need-returns Inv-loop μ-loop
+returns c = search needs
+
+unread-requires : tie.Need-unread-requires Inv-loop μ-loop
+unread-requires c κs = search needs
+
+add-n : tie.Need-add-n Inv-loop μ-loop
+add-n c = search needs
+
+loop-less : tie.Need-loop-less Inv-loop μ-loop
+loop-less c = search needs
+
+loop-again : tie.Need-loop-again Inv-loop μ-loop
+loop-again c = search needs
+
+returns-2 : tie.Need-returns-2 Inv-loop μ-loop
+returns-2 c = search needs
+
+pub all-spec : {M : Type 1} → statement M
+all-spec =
+    tie.close
+    (tie.spec
+    Inv-loop
+    μ-loop
+    fresh-requires
+    loop-holds
+    end-of-requires
+    sub-one
+    part-one-start
+    part-one-end
+    sub-one-2
+    part-one-start-2
+    part-one-end-2
+    one-requires
+    returns
+    unread-requires
+    add-n
+    loop-less
+    loop-again
+    returns-2)

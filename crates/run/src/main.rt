@@ -1,0 +1,244 @@
+// The program of document 01: profile.bin, events.bin and answers.bin, the first 65,536 bytes of each, and what becomes of each event.
+//
+// The bridge promises its counts, as it promises all that it does. The program is proved without these promises: it takes no more of a buffer than
+// there is.
+ghost use Prim.Native.Nat.{_+_, _*_, _≤_, _<_};
+ghost use lib.ListN.{length};
+ghost use Rattle.io.specs.Counts.{Counts};
+use delivery::Outcome;
+use drivers::Call;
+use session::Session;
+
+// Whether the next event may follow, and how many answers this one used.
+struct Said {
+    goes: bool,
+    used: usize,
+}
+
+// What one event came to.
+struct Next {
+    said: Said,
+    session: Session,
+}
+
+fn within(n: usize, most: usize) -> usize
+    ensures { λ r. ⌜ r ≤ most ⌝ }
+{
+    if n < most { n } else { most }
+}
+
+// ── files ──
+
+// A missing file counts as empty.
+fn load(path: &[u8], room: &mut [u8]) -> usize
+    ensures { λ r. ⌜ Counts r (now (room .exit)) ⌝ }
+{
+    let fd = os::open_read(path);
+    if fd < 0 {
+        return 0;
+    }
+    let n = io::read_full(fd, room);
+    libc::close(fd);
+    n
+}
+
+fn show(out: &[u8], n: usize)
+    requires { ⌜ n ≤ length (now out) ⌝ }
+{
+    io::write_all(libc::STDOUT_FILENO, &out[..n]);
+}
+
+// ── lines ──
+
+fn call_at(calls: &[u8], i: usize) -> Call
+    requires { ⌜ 16 * i + 16 ≤ length (now calls) ⌝ }
+{
+    let at = 16 * i;
+    Call {
+        kind: calls[at],
+        driver: calls[at + 1],
+        name: base::read_u16(calls, at + 2),
+        argument: base::read_u32(calls, at + 4),
+        level: base::read_u64(calls, at + 8),
+    }
+}
+
+// The first n calls of a buffer, a line each.
+fn put_calls(out: &mut [u8], at: usize, calls: &[u8], n: usize) -> usize
+    requires { ⌜ 16 * n ≤ length (now calls) ⌝ }
+    requires { ⌜ at + 93 * n ≤ length (now out) ⌝ }
+    ensures { λ r. ⌜ r ≤ at + 93 * n ⌝ }
+{
+    let mut a = at;
+    let mut i: usize = 0;
+    while i < n {
+        let c = call_at(calls, i);
+        a = printing::put_call(out, a, c);
+        i += 1;
+    }
+    a
+}
+
+fn put_event(out: &mut [u8], n: usize) -> usize
+    requires { ⌜ 26 ≤ length (now out) ⌝ }
+    ensures { λ r. ⌜ r ≤ 26 ⌝ }
+{
+    let a = printing::put(out, 0, b"event");
+    printing::put_word(out, a, n as u64)
+}
+
+fn put_counts(out: &mut [u8], at: usize, sent: usize, asked: usize) -> usize
+    requires { ⌜ at + 63 ≤ length (now out) ⌝ }
+    ensures { λ r. ⌜ r ≤ at + 63 ⌝ }
+{
+    let a = printing::put(out, at, b" done messages");
+    let b = printing::put_word(out, a, sent as u64);
+    let c = printing::put(out, b, b" calls");
+    let d = printing::put_word(out, c, asked as u64);
+    printing::put_end(out, d)
+}
+
+// ── what became of an event ──
+
+// A buffer for 89 bytes of the first line, 102 messages of 15 and 337 calls of 93.
+fn show_done(n: usize, messages: &[u8], sent: usize, calls: &[u8], asked: usize)
+    requires { ⌜ 3 * sent ≤ length (now messages) ⌝ }
+    requires { ⌜ 16 * asked ≤ length (now calls) ⌝ }
+    requires { ⌜ sent ≤ 102 ⌝ }
+    requires { ⌜ asked ≤ 337 ⌝ }
+{
+    let mut out = [0u8; 32960];
+    let a = put_event(&mut out, n);
+    let b = put_counts(&mut out, a, sent, asked);
+    let c = printing::put_messages(&mut out, b, messages, sent);
+    let d = put_calls(&mut out, c, calls, asked);
+    show(&out, d);
+}
+
+fn show_refused(n: usize, why: u8) {
+    let mut out = [0u8; 64];
+    let a = put_event(&mut out, n);
+    let b = printing::put(&mut out, a, b" refused");
+    let c = printing::put_word(&mut out, b, why as u64);
+    let d = printing::put_end(&mut out, c);
+    show(&out, d);
+}
+
+fn show_waiting(n: usize, c: Call) {
+    let mut out = [0u8; 128];
+    let a = put_event(&mut out, n);
+    let b = printing::put(&mut out, a, b" waiting\n");
+    let d = printing::put_call(&mut out, b, c);
+    show(&out, d);
+}
+
+fn show_profile(why: u8) {
+    let mut out = [0u8; 64];
+    let a = printing::put(&mut out, 0, b"profile refused");
+    let b = printing::put_word(&mut out, a, why as u64);
+    let c = printing::put_end(&mut out, b);
+    show(&out, c);
+}
+
+// Says what became of event n.
+fn show_outcome(n: usize, outcome: Outcome, messages: &[u8], calls: &[u8]) -> Said
+    requires { ⌜ 306 ≤ length (now messages) ⌝ }
+    requires { ⌜ 5392 ≤ length (now calls) ⌝ }
+{
+    match outcome {
+        Outcome::Done {
+            messages: sent,
+            calls: asked,
+            used,
+            saved: _,
+        } => {
+            show_done(n, messages, within(sent, 102), calls, within(asked, 337));
+            Said {
+                goes: true,
+                used: used,
+            }
+        }
+        Outcome::Refused(why) => {
+            show_refused(n, why);
+            Said {
+                goes: false,
+                used: 0,
+            }
+        }
+        Outcome::Waiting(c) => {
+            show_waiting(n, c);
+            Said {
+                goes: false,
+                used: 0,
+            }
+        }
+    }
+}
+
+// Runs event n.
+fn one(n: usize, session: Session, profile: &[u8], event: &[u8], answers: &[u8]) -> Next {
+    let mut messages = [0u8; 306];
+    let mut calls = [0u8; 5392];
+    let r = bridge::step(session, profile, event, answers, &mut messages, &mut calls);
+    let s = r.session;
+    let o = r.outcome;
+    let t = show_outcome(n, o, &messages, &calls);
+    Next {
+        said: t,
+        session: s,
+    }
+}
+
+// Where the event that starts at `from` ends: the last one may be incomplete.
+fn end_of(from: usize, length: usize) -> usize
+    requires { ⌜ from < length ⌝ }
+    ensures { λ r. ⌜ r ≤ length ⌝ }
+    ensures { λ r. ⌜ from < r ⌝ }
+{
+    if length - from > 16 {
+        return from + 16;
+    }
+    length
+}
+
+// Where the first unread answer stands after an event that started to read at `read`.
+fn unread(read: usize, used: usize, length: usize) -> usize
+    requires { ⌜ read ≤ length ⌝ }
+    ensures { λ r. ⌜ r ≤ length ⌝ }
+{
+    read + 16 * within(used, (length - read) / 16)
+}
+
+fn all(profile: &[u8], events: &[u8], answers: &[u8]) {
+    let mut s = session::fresh();
+    let mut from: usize = 0;
+    let mut read: usize = 0;
+    let mut n: usize = 0;
+    while from < events.len() {
+        let to = end_of(from, events.len());
+        let r = one(n, s, profile, &events[from..to], &answers[read..]);
+        let t = r.said;
+        if !t.goes {
+            return;
+        }
+        s = r.session;
+        from = to;
+        read = unread(read, t.used, answers.len());
+        n += 1;
+    }
+}
+
+fn main() {
+    let mut profile = io::large_buffer();
+    let mut events = io::large_buffer();
+    let mut answers = io::large_buffer();
+    let p = load(b"profile.bin", &mut profile);
+    let e = load(b"events.bin", &mut events);
+    let a = load(b"answers.bin", &mut answers);
+    let why = profile::examine(&profile[..p]);
+    if why != 0 {
+        show_profile(why);
+        return;
+    }
+    all(&profile[..p], &events[..e], &answers[..a]);
+}

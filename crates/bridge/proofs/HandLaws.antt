@@ -2,7 +2,7 @@
 -- Assumes nothing.
 use Prim.Native.Nat.{ℕ, zero, suc, _+_, _*_, _-_, _≤_, _<_}
 use mathlib.Core.Path.{_≡_, refl, sym, ap, _∙_, subst}
-use mathlib.Core.Bool.{_&&_, Bool, true, false, _||_, not, cond, true≢false}
+use mathlib.Core.Bool.{_&&_, Bool, true, false, _||_, not, cond, true≢false, and-false}
 use mathlib.Core.List.{List, [], _∷_, map}
 use mathlib.Core.Option.{Option, none, some}
 use native.Mathlib.Omega.{arith}
@@ -29,6 +29,7 @@ use Rattle.lookup.specs.Lookup.{destAt, foundAt, encoderOf, precede, encoderPla
 use Rattle.lookup.specs.LookupLaws.{encoder-place-found, encoder-place-is}
 use Rattle.lookup.specs.View.{viewOf}
 use Rattle.lookup.specs.declared.Found.{Found}
+use Rattle.lookup.specs.declared.Found.the-variants as found
 use Rattle.drivers.specs.Talk.{Talk, Got, got, next, start}
 use Rattle.drivers.specs.Bytes.{joined, encode}
 use Rattle.drivers.specs.Shown.{shown}
@@ -46,8 +47,7 @@ use Rattle.definition.specs.Step.{Kept, Left, Ended, done, refused, Stepped, st
 use Rattle.rig.specs.Seen.{rigIn}
 use Rattle.rig.specs.declared.Current.{Current}
 use Rattle.hands.specs.Sums.{SumsFit}
-use Rattle.hands.specs.Verdicts.{leftBy}
-use Rattle.hands.specs.Verdicts as verdicts
+use Rattle.hands.specs.Verdicts.{leftBy, controlled, Fades}
 use Rattle.hands.specs.declared.Verdict.{Verdict}
 use Rattle.delivery.specs.Delivery.{outcomeOf, isDone, messagesAfter, callsAfter, endOf, HasRoom, Ends}
 use Rattle.delivery.specs.declared.Outcome.{Outcome}
@@ -291,14 +291,39 @@ module _ (p : List ℕ) (s : Session) (ch : ℕ) (delta : ℤ) where
 
 -- ── a fader ──
 
-module _ (p : List ℕ) (s : Session) (ch : ℕ) (value : Float) (answers : List ℕ) (c : Current) (i : IsCurrent (s .live) (s .bank) c) (mark : Bool) (last : Level)
-    (m : mark ≡ isMarked (s .bank * 16 + ch) (s .marks)) (l : last ≡ lastMove (s .bank * 16 + ch) (s .moves)) (t : Talk) (b : t ≡ start answers (s .opened))
-    (v : Verdict) (io : Io) (cs ms : List ℕ) (f : verdicts.Fades (destination (rigIn p c) (ch + 1)) mark last value t v (shown answers io cs ms)) where
+-- in control of its destination it asks nothing
+pub controls : (f : Found) (k ch : ℕ) (value : Float) (d : Desk) (t : Talk) → isMarked k (d .marks) ≡ true →
+    got (leftBy (controlled f) k ch value d) t ≡ faderTo f k ch value d t
+controls (found.To e) k ch value d t q = rw (q, and-false (e .takeover))
+controls found.Nothing k ch value d t q = refl
+
+module _ (p : List ℕ) (s : Session) (ch : ℕ) (value : Float) (answers : List ℕ) (c : Current) (v : Verdict) where
+  -- the verdict v and the line u are those of the move
+  abbrev pub Ran : Talk → Type 0
+  Ran u =
+      got (leftBy v (s .bank * 16 + ch) ch value (seen p s .desk)) u
+      ≡ faderTo (destination (rigIn p c) (ch + 1)) (s .bank * 16 + ch) ch value (seen p s .desk) (start answers (s .opened))
+
+  -- where the mark stands, nothing was asked
+  pub unasked : v ≡ controlled (destination (rigIn p c) (ch + 1)) → isMarked (s .bank * 16 + ch) (s .marks) ≡ true → Ran (start answers (s .opened))
+  unfolding seen
+  unasked q m =
+      ap (λ (w : Verdict). got (leftBy w (s .bank * 16 + ch) ch value (seen p s .desk)) (start answers (s .opened))) q
+      ∙ controls (destination (rigIn p c) (ch + 1)) (s .bank * 16 + ch) ch value (seen p s .desk) (start answers (s .opened)) m
+
+  -- and else what the handler says, of the last move there
+  pub asked : (last : Level) (t u : Talk) → t ≡ start answers (s .opened) → Fades (destination (rigIn p c) (ch + 1)) last value t v u →
+      isMarked (s .bank * 16 + ch) (s .marks) ≡ false → last ≡ lastMove (s .bank * 16 + ch) (s .moves) → Ran u
+  unfolding seen
+  asked last t u b f m l =
+      f (s .bank * 16 + ch) ch (seen p s .desk) m (sym l)
+      ∙ ap (λ (w : Talk). faderTo (destination (rigIn p c) (ch + 1)) (s .bank * 16 + ch) ch value (seen p s .desk) w) b
+
+-- a move that left the verdict v and the line `line`
+module _ (p : List ℕ) (s : Session) (ch : ℕ) (value : Float) (answers : List ℕ) (c : Current) (i : IsCurrent (s .live) (s .bank) c) (v : Verdict) (line : Talk)
+    (ran : Ran p s ch value answers c v line) where
   abbrev left : Desk
   left = leftBy v (s .bank * 16 + ch) ch value (seen p s .desk)
-
-  abbrev line : Talk
-  line = shown answers io cs ms
 
   -- the move as the handler ran it
   fader-is : fader (rigAt (viewOf p) (seen p s) (s .bank)) ch value (seen p s .desk) (start answers (s .opened)) ≡ got left line
@@ -306,8 +331,7 @@ module _ (p : List ℕ) (s : Session) (ch : ℕ) (value : Float) (answers : List
   fader-is =
       ap (λ (r : Rig). fader r ch value (seen p s .desk) (start answers (s .opened))) (rig-is p s (s .bank) c i)
       ∙ ap (λ (n : ℕ). faderTo (destination (rigIn p c) (ch + 1)) (n * 16 + ch) ch value (seen p s .desk) (start answers (s .opened))) (i .bank)
-      ∙ ap (λ (u : Talk). faderTo (destination (rigIn p c) (ch + 1)) (s .bank * 16 + ch) ch value (seen p s .desk) u) (sym b)
-      ∙ sym (f (s .bank * 16 + ch) ch (seen p s .desk) (sym m) (sym l))
+      ∙ sym ran
 
   -- and its event, at any time
   did-is : (now : Float) → did (viewOf p) (seen p s) (movedAt now ch value) answers ≡ got (withDesk (seen p s) left) line
@@ -326,30 +350,36 @@ module _ (p : List ℕ) (s : Session) (ch : ℕ) (value : Float) (answers : List
 
   module _ (accepted : verdict p ≡ 0) (e : wellShaped p s ≡ true) (long : length (s .opened) ≡ 16) (low : ch < 16) where
     -- a line that goes on has room, whatever the event's time is
-    pub move-room : HasRoom io
-    move-room =
+    pub move-room : (io : Io) (cs ms : List ℕ) → shown answers io cs ms ≡ line → HasRoom io
+    move-room io cs ms q =
         room-for p accepted (seen p s) (well-seen p s long e) (movedAt value ch value) answers (free value) io cs ms
-        (sym (ap (λ (g : Got Left). g .talk) (did-is value)))
+        (q ∙ sym (ap (λ (g : Got Left). g .talk) (did-is value)))
 
-    module _ (r : End) (ms₀ cs₀ ms₁ cs₁ : List ℕ) (h : Ends io cs ms false r ms₀ cs₀ ms₁ cs₁) where
+    module _ (o : Outcome) (ms₀ cs₀ ms₁ cs₁ : List ℕ) (ho : o ≡ outcomeOf (endOf line false)) (hm : ms₁ ≡ messagesAfter (endOf line false) ms₀)
+        (hc : cs₁ ≡ callsAfter (endOf line false) cs₀) where
       -- one that waits or is refused
-      pub unmoved : r .done ≡ false → Moves p s ch value answers ms₀ cs₀ (record { outcome = r .outcome; session = s }) ms₁ cs₁
+      pub unmoved : isDone (endOf line false) ≡ false → Moves p s ch value answers ms₀ cs₀ (record { outcome = o; session = s }) ms₁ cs₁
       unmoved q now =
-          undone-delivers p accepted s (well-seen p s long e) (movedAt now ch value) answers (free now) (r .outcome) ms₀ cs₀ ms₁ cs₁
-          (ap isDone (end-is now) ∙ sym (h .done answers) ∙ q) (h .outcome answers ∙ ap outcomeOf (sym (end-is now)))
-          (h .messages answers ∙ ap (λ (x : Ended). messagesAfter x ms₀) (sym (end-is now)))
-          (h .calls answers ∙ ap (λ (x : Ended). callsAfter x cs₀) (sym (end-is now)))
+          undone-delivers p accepted s (well-seen p s long e) (movedAt now ch value) answers (free now) o ms₀ cs₀ ms₁ cs₁ (ap isDone (end-is now) ∙ q)
+          (ho ∙ ap outcomeOf (sym (end-is now))) (hm ∙ ap (λ (x : Ended). messagesAfter x ms₀) (sym (end-is now)))
+          (hc ∙ ap (λ (x : Ended). callsAfter x cs₀) (sym (end-is now)))
 
       -- one that is done
-      pub moved : r .done ≡ true → (x : Session) → after.Fades s v (s .bank * 16 + ch) ch value (r .opened) x → KeepsPlaces s x →
-          Moves p s ch value answers ms₀ cs₀ (record { outcome = r .outcome; session = x }) ms₁ cs₁
-      unfolding shown
+      pub moved : isDone (endOf line false) ≡ true → (x : Session) → after.Fades s v (s .bank * 16 + ch) ch value (line .opened) x → KeepsPlaces s x →
+          Moves p s ch value answers ms₀ cs₀ (record { outcome = o; session = x }) ms₁ cs₁
       moved q x fades keeps now =
-          done-delivers p accepted s (well-seen p s long e) (movedAt now ch value) answers (free now) low (r .outcome) x ms₀ cs₀ ms₁ cs₁
-          (ap isDone (end-is now) ∙ sym (h .done answers) ∙ q)
-          (fades p
-          ∙ ap (λ (o : List Bool). keptWith (withDesk (seen p s) left) o) (h .opened)
-          ∙ ap (λ (g : Got Left). keptWith (g .value) (g .talk .opened)) (sym (did-is now)))
-          (keeps p (places p s e)) (h .outcome answers ∙ ap outcomeOf (sym (end-is now)))
-          (h .messages answers ∙ ap (λ (y : Ended). messagesAfter y ms₀) (sym (end-is now)))
-          (h .calls answers ∙ ap (λ (y : Ended). callsAfter y cs₀) (sym (end-is now)))
+          done-delivers p accepted s (well-seen p s long e) (movedAt now ch value) answers (free now) low o x ms₀ cs₀ ms₁ cs₁ (ap isDone (end-is now) ∙ q)
+          (fades p ∙ ap (λ (g : Got Left). keptWith (g .value) (g .talk .opened)) (sym (did-is now))) (keeps p (places p s e))
+          (ho ∙ ap outcomeOf (sym (end-is now))) (hm ∙ ap (λ (y : Ended). messagesAfter y ms₀) (sym (end-is now)))
+          (hc ∙ ap (λ (y : Ended). callsAfter y cs₀) (sym (end-is now)))
+
+-- a fader in control leaves the lent buffers as they were
+pub in-control : (p : List ℕ) (s : Session) (ch : ℕ) (value : Float) (answers : List ℕ) (c : Current) → IsCurrent (s .live) (s .bank) c → (v : Verdict) →
+    v ≡ controlled (destination (rigIn p c) (ch + 1)) → isMarked (s .bank * 16 + ch) (s .marks) ≡ true → verdict p ≡ 0 → wellShaped p s ≡ true →
+    length (s .opened) ≡ 16 → ch < 16 → (o : Outcome) → o ≡ outcome.Done 0 0 0 false → (x : Session) →
+    after.Fades s v (s .bank * 16 + ch) ch value (s .opened) x → KeepsPlaces s x → (ms cs : List ℕ) →
+    Moves p s ch value answers ms cs (record { outcome = o; session = x }) ms cs
+unfolding joined encode
+in-control p s ch value answers c i v q m accepted e long low o ho x fades keeps ms cs =
+    moved p s ch value answers c i v (start answers (s .opened)) (unasked p s ch value answers c v q m) accepted e long low o ms cs ms cs ho refl refl refl x fades
+    keeps

@@ -96,8 +96,18 @@ fn on_fader(
     let live = session.live;
     let here = current_bank(live, session.bank);
     let k = (session.bank as usize) * 16 + (channel as usize);
+    if session::is_marked(session.marks, k) {
+        // in control: nothing is asked, so no scratch buffers are laid out
+        let verdict = hands::faders::in_control(profile, here, channel);
+        let opened = session.opened;
+        let t = after::faded(session, verdict, k, channel, value, opened);
+        let o = nothing();
+        return Stepped {
+            outcome: o,
+            session: t,
+        };
+    }
     let last = session::last_move(session.moves, k);
-    let mark = session::is_marked(session.marks, k);
     let mut cs = [0u8; 5392];
     let mut ms = [0u8; 306];
     let opened = session.opened;
@@ -109,7 +119,6 @@ fn on_fader(
         io,
         profile,
         here,
-        mark,
         last,
         channel,
         value,

@@ -34,30 +34,23 @@ use Rattle.hands.specs.declared.Verdict.the-variants.{Held, Taken}
 
 -- ── a move ──
 
--- the code's test of the mark and the waiver, as the definition makes it
-unasked : (mark takeover : Bool) → (mark || not takeover) ≡ true → (takeover && not mark) ≡ false
-unasked true true e = refl
-unasked true false e = refl
-unasked false true e = absurd (true≢false (sym e))
-unasked false false e = refl
+-- where no mark stands, the definition's test is the waiver alone
+asked : (takeover : Bool) → takeover ≡ true → (takeover && not false) ≡ true
+asked true q = refl
+asked false q = absurd (true≢false (sym q))
 
-asked : (mark takeover : Bool) → (mark || not takeover) ≡ false → (takeover && not mark) ≡ true
-asked true takeover e = absurd (true≢false e)
-asked false true e = refl
-asked false false e = absurd (true≢false e)
+module _ (e : Destination) (last : Level) (value : Float) (t : Talk) where
+  pub taken-unasked : e .takeover ≡ false → Fades (To e) last value t Taken t
+  taken-unasked q k ch d i j = rw q
 
-module _ (e : Destination) (mark : Bool) (last : Level) (value : Float) (t : Talk) where
-  pub taken-unasked : (mark || not (e .takeover)) ≡ true → Fades (To e) mark last value t Taken t
-  taken-unasked q k ch d i j = rw (i, unasked mark (e .takeover) q)
-
-  module _ (c : Level) (u : Talk) (b : Bool) (q : (mark || not (e .takeover)) ≡ false) (r : got c u ≡ read e t) (h : b ≡ isHeld c last value) where
-    pub held : b ≡ true → Fades (To e) mark last value t Held u
+  module _ (c : Level) (u : Talk) (b : Bool) (q : e .takeover ≡ true) (r : got c u ≡ read e t) (h : b ≡ isHeld c last value) where
+    pub held : b ≡ true → Fades (To e) last value t Held u
     unfolding next
-    held s k ch d i j = rw (i, asked mark (e .takeover) q, ← r, j, ← h, s)
+    held s k ch d i j = rw (i, asked (e .takeover) q, ← r, j, ← h, s)
 
-    pub taken : b ≡ false → Fades (To e) mark last value t Taken u
+    pub taken : b ≡ false → Fades (To e) last value t Taken u
     unfolding next
-    taken s k ch d i j = rw (i, asked mark (e .takeover) q, ← r, j, ← h, s)
+    taken s k ch d i j = rw (i, asked (e .takeover) q, ← r, j, ← h, s)
 
 -- ── a sum: a signed number as the machine keeps it ──
 

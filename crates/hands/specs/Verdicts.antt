@@ -1,10 +1,11 @@
--- A move, of which a handler is told the channel's mark and last move, and says what becomes of it: the desk itself is in no handler's hands.
+-- A move, of which a handler is told the last move of its channel, and says what becomes of it: the desk itself is in no handler's hands.
 -- Definitions only.
 use Prim.Native.Nat.{ℕ}
 use mathlib.Core.Path.{_≡_}
-use mathlib.Core.Bool.{Bool}
+use mathlib.Core.Bool.{false}
 use lib.Ieee.{Float}
 use Rattle.lookup.specs.declared.Found.{Found}
+use Rattle.lookup.specs.declared.Found.the-variants as found
 use Rattle.drivers.specs.Talk.{Talk, got}
 use Rattle.drivers.specs.declared.Level.{Level}
 use Rattle.session.specs.Session.{isMarked, lastMove}
@@ -18,7 +19,12 @@ leftBy Ignored k ch value d = d
 leftBy Held k ch value d = holdMove k value d
 leftBy Taken k ch value d = takeMove k ch value d
 
--- the verdict v and the line u after a move to f, of the line t before it: on every desk that has the mark and the last move there
-abbrev pub Fades : Found → Bool → Level → Float → Talk → Verdict → Talk → Type 0
-Fades f mark last value t v u =
-    (k ch : ℕ) (d : Desk) → isMarked k (d .marks) ≡ mark → lastMove k (d .moves) ≡ last → got (leftBy v k ch value d) u ≡ faderTo f k ch value d t
+-- where the mark stands no device is asked: a move with a destination is taken
+abbrev pub controlled : Found → Verdict
+controlled (found.To e) = Taken
+controlled found.Nothing = Ignored
+
+-- the verdict v and the line u after a move to f, of the line t before it: on every desk that has no mark and this last move there
+abbrev pub Fades : Found → Level → Float → Talk → Verdict → Talk → Type 0
+Fades f last value t v u =
+    (k ch : ℕ) (d : Desk) → isMarked k (d .marks) ≡ false → lastMove k (d .moves) ≡ last → got (leftBy v k ch value d) u ≡ faderTo f k ch value d t

@@ -13,7 +13,7 @@ ghost use Rattle.drivers.specs.Shown.{shown};
 ghost use Rattle.definition.specs.Rig.{destination};
 ghost use Rattle.definition.specs.Faders.{isHeld};
 ghost use Rattle.rig.specs.Seen.{rigIn};
-ghost use Rattle.hands.specs.Verdicts.{Fades};
+ghost use Rattle.hands.specs.Verdicts.{Fades, controlled};
 
 // Gear that cannot answer cannot hold the fader.
 fn is_held(device: Level, last: Level, value: f64) -> bool
@@ -29,20 +29,31 @@ fn is_held(device: Level, last: Level, value: f64) -> bool
     }
 }
 
-// A mark, or a destination that waives takeover, asks nothing.
+// A fader in control of its destination asks nothing.
+pub fn in_control(profile: &[u8], here: Current, channel: u8) -> Verdict
+    requires { ⌜ here .strips .count ≤ 8 ⌝ }
+    requires { ⌜ channel < 16 ⌝ }
+    ensures { λ r. ⌜ r ≡ controlled (destination (rigIn (now (profile .entry)) here) (channel + 1)) ⌝ }
+{
+    match rig::here::destination(profile, here, channel + 1) {
+        Found::To(_) => Verdict::Taken,
+        Found::Nothing => Verdict::Ignored,
+    }
+}
+
+// A destination that waives takeover is not asked.
 fn fader_at(
     answers: &[u8],
     calls: &mut [u8; 5392],
     messages: &mut [u8; 306],
     io: Io,
     dest: Destination,
-    mark: bool,
     last: Level,
     value: f64,
 ) -> Faded
-    ensures { λ r. ⌜ Fades (To dest) mark last value (shown (now (answers .entry)) io (now (calls .entry)) (now (messages .entry))) (r .verdict) (shown (now (answers .entry)) (r .io) (now (calls .exit)) (now (messages .exit))) ⌝ }
+    ensures { λ r. ⌜ Fades (To dest) last value (shown (now (answers .entry)) io (now (calls .entry)) (now (messages .entry))) (r .verdict) (shown (now (answers .entry)) (r .io) (now (calls .exit)) (now (messages .exit))) ⌝ }
 {
-    if mark | !dest.takeover {
+    if !dest.takeover {
         return Faded {
             io: io,
             verdict: Verdict::Taken,
@@ -63,7 +74,7 @@ fn fader_at(
     }
 }
 
-// What becomes of a move, with the channel's mark and its last move there.
+// What becomes of a move of a fader that is not in control, with its last move there.
 pub fn fader(
     answers: &[u8],
     calls: &mut [u8; 5392],
@@ -71,17 +82,16 @@ pub fn fader(
     io: Io,
     profile: &[u8],
     here: Current,
-    mark: bool,
     last: Level,
     channel: u8,
     value: f64,
 ) -> Faded
     requires { ⌜ here .strips .count ≤ 8 ⌝ }
     requires { ⌜ channel < 16 ⌝ }
-    ensures { λ r. ⌜ Fades (destination (rigIn (now (profile .entry)) here) (channel + 1)) mark last value (shown (now (answers .entry)) io (now (calls .entry)) (now (messages .entry))) (r .verdict) (shown (now (answers .entry)) (r .io) (now (calls .exit)) (now (messages .exit))) ⌝ }
+    ensures { λ r. ⌜ Fades (destination (rigIn (now (profile .entry)) here) (channel + 1)) last value (shown (now (answers .entry)) io (now (calls .entry)) (now (messages .entry))) (r .verdict) (shown (now (answers .entry)) (r .io) (now (calls .exit)) (now (messages .exit))) ⌝ }
 {
     match rig::here::destination(profile, here, channel + 1) {
-        Found::To(d) => fader_at(answers, calls, messages, io, d, mark, last, value),
+        Found::To(d) => fader_at(answers, calls, messages, io, d, last, value),
         Found::Nothing => Faded {
             io: io,
             verdict: Verdict::Ignored,

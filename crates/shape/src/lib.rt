@@ -13,60 +13,52 @@ ghost use Prim.Native.Nat.{_≤_};
 ghost use lib.Dec.{eqb};
 ghost use lib.ListN.{take};
 ghost use Rattle.base.specs.Keyed.{allOf, noTwice};
-ghost use Rattle.session.specs.Session.{seenLine, isEncoder};
+ghost use Rattle.session.specs.Session.{isEncoder};
 ghost use Rattle.definition.specs.Faders.{inRange};
-ghost use Rattle.definition.specs.Shape.{lowChannel, sameChannel, shapedLine, goodStrip, sameNumber, shapedStrips, sameWire, shapedTurns, shapedSilenced, shapedFlash, wellShaped};
+ghost use Rattle.definition.specs.Shape.{shapedLine, shapedStrips, sameWire, shapedTurns, shapedSilenced, shapedFlash, wellShaped};
 
 // ── the line ──
 
-fn low_channels(line: Line) -> bool
-    requires { ⌜ line .count ≤ 16 ⌝ }
-    ensures { λ r. ⌜ r ≡ allOf lowChannel (seenLine line) ⌝ }
+// A channel is at most 15, and in the line once. One loop in another, since a line handed on is a line copied.
+fn shaped_line(line: Line) -> bool
+    ensures { λ r. ⌜ r ≡ shapedLine line ⌝ }
 {
     let n = line.count;
+    if 16 < n {
+        return false;
+    }
     let mut i: usize = 0;
     while i < n {
         let m = line.list[i];
         if 15 < m.channel {
             return false;
         }
-        i += 1;
-    }
-    true
-}
-
-fn no_channel_twice(line: Line) -> bool
-    requires { ⌜ line .count ≤ 16 ⌝ }
-    ensures { λ r. ⌜ r ≡ noTwice sameChannel (seenLine line) ⌝ }
-{
-    let n = line.count;
-    let mut i: usize = 0;
-    while i < n {
-        let m = line.list[i];
-        if session::find_move(line, i, m.channel) < i {
-            return false;
+        let mut j: usize = 0;
+        while j < i {
+            let o = line.list[j];
+            if o.channel == m.channel {
+                return false;
+            }
+            j += 1;
         }
         i += 1;
     }
     true
 }
 
-fn shaped_line(line: Line) -> bool
-    ensures { λ r. ⌜ r ≡ shapedLine line ⌝ }
-{
-    if 16 < line.count {
-        return false;
-    }
-    low_channels(line) & no_channel_twice(line)
-}
-
 // ── live lists ──
 
-fn good_strips(strips: Strips) -> bool
-    requires { ⌜ strips .count ≤ 8 ⌝ }
-    ensures { λ r. ⌜ r ≡ allOf goodStrip (take (strips .count) (strips .list)) ⌝ }
+// A bank that is not known is passed over without a look at its faders. A number is 1 to 8, and in the bank once; a driver is at most 15.
+fn shaped_strips(strips: Strips) -> bool
+    ensures { λ r. ⌜ r ≡ shapedStrips strips ⌝ }
 {
+    if !strips.known {
+        return true;
+    }
     let n = strips.count;
+    if 8 < n {
+        return false;
+    }
     let mut i: usize = 0;
     while i < n {
         let s = strips.list[i];
@@ -74,48 +66,30 @@ fn good_strips(strips: Strips) -> bool
         if !fits {
             return false;
         }
-        i += 1;
-    }
-    true
-}
-
-fn no_number_twice(strips: Strips) -> bool
-    requires { ⌜ strips .count ≤ 8 ⌝ }
-    ensures { λ r. ⌜ r ≡ noTwice sameNumber (take (strips .count) (strips .list)) ⌝ }
-{
-    let n = strips.count;
-    let mut i: usize = 0;
-    while i < n {
-        let s = strips.list[i];
-        if session::find_strip(strips, i, s.number) < i {
-            return false;
+        let mut j: usize = 0;
+        while j < i {
+            let o = strips.list[j];
+            if o.number == s.number {
+                return false;
+            }
+            j += 1;
         }
         i += 1;
     }
     true
 }
 
-// A bank that is not known is passed over without a look at its faders.
-fn shaped_strips(strips: Strips) -> bool
-    ensures { λ r. ⌜ r ≡ shapedStrips strips ⌝ }
-{
-    if !strips.known {
-        return true;
-    }
-    if 8 < strips.count {
-        return false;
-    }
-    good_strips(strips) & no_number_twice(strips)
-}
-
+// A bank is copied out only if it is known.
 fn shaped_live(live: Live) -> bool
     ensures { λ r. ⌜ r ≡ allOf shapedStrips (live .banks) ⌝ }
 {
     let mut b: usize = 0;
     while b < 16 {
-        let s = live.banks[b];
-        if !shaped_strips(s) {
-            return false;
+        if live.banks[b].known {
+            let s = live.banks[b];
+            if !shaped_strips(s) {
+                return false;
+            }
         }
         b += 1;
     }

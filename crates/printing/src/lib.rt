@@ -2,6 +2,16 @@
 //
 // Where the length depends on a number, the contract gives the most that it can be: a caller has to know that its buffer is long enough, not what
 // stands there.
+mod lines;
+
+pub use lines::put_calls;
+pub use lines::put_counts;
+pub use lines::put_step;
+pub use lines::show;
+pub use lines::show_profile;
+pub use lines::show_refused;
+pub use lines::show_waiting;
+pub use lines::within;
 ghost use Prim.Native.Nat.{_+_, _*_, _≤_};
 ghost use mathlib.Core.Path.{_≡_};
 ghost use lib.ListN.{length};

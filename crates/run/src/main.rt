@@ -6,7 +6,6 @@ ghost use Prim.Native.Nat.{_+_, _*_, _≤_, _<_};
 ghost use lib.ListN.{length};
 ghost use Rattle.io.specs.Counts.{Counts};
 use delivery::Outcome;
-use drivers::Call;
 use session::Session;
 
 // Whether the next event may follow, and how many answers this one used.
@@ -19,12 +18,6 @@ struct Said {
 struct Next {
     said: Said,
     session: Session,
-}
-
-fn within(n: usize, most: usize) -> usize
-    ensures { λ r. ⌜ r ≤ most ⌝ }
-{
-    if n < most { n } else { most }
 }
 
 // ── files ──
@@ -42,62 +35,6 @@ fn load(path: &[u8], room: &mut [u8]) -> usize
     n
 }
 
-fn show(out: &[u8], n: usize)
-    requires { ⌜ n ≤ length (now out) ⌝ }
-{
-    io::write_all(libc::STDOUT_FILENO, &out[..n]);
-}
-
-// ── lines ──
-
-fn call_at(calls: &[u8], i: usize) -> Call
-    requires { ⌜ 16 * i + 16 ≤ length (now calls) ⌝ }
-{
-    let at = 16 * i;
-    Call {
-        kind: calls[at],
-        driver: calls[at + 1],
-        name: base::read_u16(calls, at + 2),
-        argument: base::read_u32(calls, at + 4),
-        level: base::read_u64(calls, at + 8),
-    }
-}
-
-// The first n calls of a buffer, a line each.
-fn put_calls(out: &mut [u8], at: usize, calls: &[u8], n: usize) -> usize
-    requires { ⌜ 16 * n ≤ length (now calls) ⌝ }
-    requires { ⌜ at + 93 * n ≤ length (now out) ⌝ }
-    ensures { λ r. ⌜ r ≤ at + 93 * n ⌝ }
-{
-    let mut a = at;
-    let mut i: usize = 0;
-    while i < n {
-        let c = call_at(calls, i);
-        a = printing::put_call(out, a, c);
-        i += 1;
-    }
-    a
-}
-
-fn put_event(out: &mut [u8], n: usize) -> usize
-    requires { ⌜ 26 ≤ length (now out) ⌝ }
-    ensures { λ r. ⌜ r ≤ 26 ⌝ }
-{
-    let a = printing::put(out, 0, b"event");
-    printing::put_word(out, a, n as u64)
-}
-
-fn put_counts(out: &mut [u8], at: usize, sent: usize, asked: usize) -> usize
-    requires { ⌜ at + 63 ≤ length (now out) ⌝ }
-    ensures { λ r. ⌜ r ≤ at + 63 ⌝ }
-{
-    let a = printing::put(out, at, b" done messages");
-    let b = printing::put_word(out, a, sent as u64);
-    let c = printing::put(out, b, b" calls");
-    let d = printing::put_word(out, c, asked as u64);
-    printing::put_end(out, d)
-}
-
 // ── what became of an event ──
 
 // A buffer for 89 bytes of the first line, 102 messages of 15 and 337 calls of 93.
@@ -108,36 +45,12 @@ fn show_done(n: usize, messages: &[u8], sent: usize, calls: &[u8], asked: usize)
     requires { ⌜ asked ≤ 337 ⌝ }
 {
     let mut out = [0u8; 32960];
-    let a = put_event(&mut out, n);
-    let b = put_counts(&mut out, a, sent, asked);
-    let c = printing::put_messages(&mut out, b, messages, sent);
-    let d = put_calls(&mut out, c, calls, asked);
-    show(&out, d);
-}
-
-fn show_refused(n: usize, why: u8) {
-    let mut out = [0u8; 64];
-    let a = put_event(&mut out, n);
-    let b = printing::put(&mut out, a, b" refused");
-    let c = printing::put_word(&mut out, b, why as u64);
-    let d = printing::put_end(&mut out, c);
-    show(&out, d);
-}
-
-fn show_waiting(n: usize, c: Call) {
-    let mut out = [0u8; 128];
-    let a = put_event(&mut out, n);
-    let b = printing::put(&mut out, a, b" waiting\n");
-    let d = printing::put_call(&mut out, b, c);
-    show(&out, d);
-}
-
-fn show_profile(why: u8) {
-    let mut out = [0u8; 64];
-    let a = printing::put(&mut out, 0, b"profile refused");
-    let b = printing::put_word(&mut out, a, why as u64);
+    let a = printing::put_step(&mut out, b"event", n);
+    let b = printing::put_counts(&mut out, a, sent, asked);
     let c = printing::put_end(&mut out, b);
-    show(&out, c);
+    let d = printing::put_messages(&mut out, c, messages, sent);
+    let e = printing::put_calls(&mut out, d, calls, asked);
+    printing::show(&out, e);
 }
 
 // Says what became of event n.
@@ -152,21 +65,23 @@ fn show_outcome(n: usize, outcome: Outcome, messages: &[u8], calls: &[u8]) -> Sa
             used,
             saved: _,
         } => {
-            show_done(n, messages, within(sent, 102), calls, within(asked, 337));
+            let m = printing::within(sent, 102);
+            let c = printing::within(asked, 337);
+            show_done(n, messages, m, calls, c);
             Said {
                 goes: true,
                 used: used,
             }
         }
         Outcome::Refused(why) => {
-            show_refused(n, why);
+            printing::show_refused(b"event", n, why);
             Said {
                 goes: false,
                 used: 0,
             }
         }
         Outcome::Waiting(c) => {
-            show_waiting(n, c);
+            printing::show_waiting(n, c);
             Said {
                 goes: false,
                 used: 0,
@@ -206,7 +121,7 @@ fn unread(read: usize, used: usize, length: usize) -> usize
     requires { ⌜ read ≤ length ⌝ }
     ensures { λ r. ⌜ r ≤ length ⌝ }
 {
-    read + 16 * within(used, (length - read) / 16)
+    read + 16 * printing::within(used, (length - read) / 16)
 }
 
 fn all(profile: &[u8], events: &[u8], answers: &[u8]) {
@@ -237,7 +152,7 @@ fn main() {
     let a = load(b"answers.bin", &mut answers);
     let why = profile::examine(&profile[..p]);
     if why != 0 {
-        show_profile(why);
+        printing::show_profile(why);
         return;
     }
     all(&profile[..p], &events[..e], &answers[..a]);

@@ -1,9 +1,9 @@
--- `run::show` meets its contract. Assumes nothing.
+-- `printing::lines::show` meets its contract. Assumes nothing.
 use mathlib.Core.Path.{sym}
 use borrow.Table.Elements.{length-take-le}
 use borrow.Author.Needs.{needs}
-use Rattle.run.proofs.show.Statement.{statement}
-use Rattle.run.proofs.show.Tie as tie
+use Rattle.printing.proofs.lines.show.Statement.{statement}
+use Rattle.printing.proofs.lines.show.Tie as tie
 
 slice-aggregate-write-all : tie.Need-slice-aggregate-write-all
 slice-aggregate-write-all c = sym (length-take-le (c .before .before .args .n) (c .before .before .args .out .now) (c .before .before .pre))

@@ -1,10 +1,10 @@
--- `run::put_calls` meets its contract. Assumes nothing.
+-- `printing::lines::put_calls` meets its contract. Assumes nothing.
 use Prim.Native.Nat.{_≤_, _+_, _*_, _-_}
 use mathlib.Core.Path.{_≡_}
 use lib.ListN.{length}
 use borrow.Author.Needs.{needs}
-use Rattle.run.proofs.put_calls.Statement.{statement}
-use Rattle.run.proofs.put_calls.Tie as tie
+use Rattle.printing.proofs.lines.put_calls.Statement.{statement}
+use Rattle.printing.proofs.lines.put_calls.Tie as tie
 
 abbrev Inv-loop : tie.InvT-loop
 Inv-loop out₀ at calls n a₀ i₀ out a i = (i ≤ n) × (a ≤ at + 93 * i) × (length out ≡ length out₀)

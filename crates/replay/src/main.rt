@@ -1,0 +1,213 @@
+// Prints what becomes of each case of a recording, as the oracle's `replay` does: replay [--dump] <RECORDING. A recording that is cut off, or has a part
+// for which there is no room here, ends the program there.
+//
+// The bridge promises its counts, as it promises all that it does. The program is proved without these promises: it takes no more of a buffer than
+// there is.
+mod show;
+mod view;
+
+ghost use Rattle.io.specs.Counts.{Counts};
+use libc::STDIN_FILENO;
+use session::Session;
+
+// A number of the recording, or how many bytes a part of it has, if the recording has it.
+struct Got {
+    there: bool,
+    n: usize,
+}
+
+// What one step came to, and whether the recording goes on.
+struct Next {
+    session: Session,
+    more: bool,
+}
+
+// ── the recording ──
+
+fn byte() -> Got {
+    let mut b = [0u8; 1];
+    let k = io::read_full(STDIN_FILENO, &mut b);
+    Got {
+        there: k == 1,
+        n: profile::view::wide(b[0]),
+    }
+}
+
+fn number() -> Got {
+    let mut b = [0u8; 4];
+    let k = io::read_full(STDIN_FILENO, &mut b);
+    Got {
+        there: k == 4,
+        n: base::read_u32(&b, 0) as usize,
+    }
+}
+
+// A length and as many bytes, where there is room for them.
+fn part(room: &mut [u8]) -> Got
+    ensures { λ r. ⌜ Counts (r .n) (now (room .exit)) ⌝ }
+{
+    let asked = number();
+    let most = printing::within(asked.n, room.len());
+    let n = io::read_full(STDIN_FILENO, &mut room[..most]);
+    Got {
+        there: asked.there & (n == asked.n),
+        n: n,
+    }
+}
+
+// ── steps ──
+
+// The saved records, where the event saved.
+fn show_saved(saved: bool, s: Session, profile: &[u8]) {
+    if !saved {
+        return;
+    }
+    let mut bytes = [0u8; 136];
+    let kept = state::saved_records(s, profile, &mut bytes);
+    show::saved(&bytes, printing::within(kept.count, 17));
+}
+
+fn one_event(
+    n: usize,
+    s: Session,
+    profile: &[u8],
+    event: &[u8],
+    answers: &[u8],
+    room: usize,
+    space: usize,
+) -> Session {
+    let mut messages = [0u8; 306];
+    let mut calls = [0u8; 5392];
+    let m = printing::within(room, 306);
+    let c = printing::within(space, 5392);
+    let r = bridge::step(
+        s,
+        profile,
+        event,
+        answers,
+        &mut messages[..m],
+        &mut calls[..c],
+    );
+    let t = r.session;
+    let o = r.outcome;
+    let saved = show::outcome(n, o, &messages, &calls);
+    show_saved(saved, t, profile);
+    t
+}
+
+fn one_restore(n: usize, s: Session, profile: &[u8], saved: &[u8]) -> Session {
+    let r = state::restore(s, profile, saved);
+    show::restored(n, r.why);
+    r.session
+}
+
+// Reads and runs step n. A refused profile has its steps read and not run.
+fn one_step(dump: bool, n: usize, s: Session, profile: &[u8], accepted: bool) -> Next {
+    let mut record = io::buffer();
+    let mut answers = io::large_buffer();
+    let kind = byte();
+    let r = part(&mut record);
+    let a = part(&mut answers);
+    let room = number();
+    let space = number();
+    if !(kind.there & r.there & a.there & room.there & space.there) {
+        return Next {
+            session: s,
+            more: false,
+        };
+    }
+    if !accepted {
+        return Next {
+            session: s,
+            more: true,
+        };
+    }
+    let event = r.n;
+    if kind.n == 1 {
+        let t = one_restore(n, s, profile, &record[..event]);
+        view::show_session(dump, t, profile);
+        return Next {
+            session: t,
+            more: true,
+        };
+    }
+    let end = a.n;
+    let t = one_event(
+        n,
+        s,
+        profile,
+        &record[..event],
+        &answers[..end],
+        room.n,
+        space.n,
+    );
+    view::show_session(dump, t, profile);
+    Next {
+        session: t,
+        more: true,
+    }
+}
+
+// ── cases ──
+
+// Runs `count` steps from a fresh session. Whether the recording goes on.
+fn all_steps(dump: bool, count: usize, profile: &[u8], accepted: bool) -> bool {
+    let mut s = session::fresh();
+    let mut n: usize = 0;
+    while n < count {
+        let r = one_step(dump, n, s, profile, accepted);
+        if !r.more {
+            return false;
+        }
+        s = r.session;
+        n += 1;
+    }
+    true
+}
+
+fn accepts(profile: &[u8]) -> bool {
+    let why = profile::examine(profile);
+    if why != 0 {
+        printing::show_profile(why);
+        return false;
+    }
+    true
+}
+
+// The next case. Whether the recording goes on.
+fn one_case(dump: bool) -> bool {
+    let mut profile = [0u8; 131072];
+    let id = number();
+    let p = part(&mut profile);
+    let steps = number();
+    if !(id.there & p.there & steps.there) {
+        return false;
+    }
+    show::case(id.n);
+    let end = p.n;
+    let accepted = accepts(&profile[..end]);
+    all_steps(dump, steps.n, &profile[..end], accepted)
+}
+
+// A loop that is proved has to end, and nothing says that the input does: the turns are counted, from a number that no run uses up.
+fn all(dump: bool) {
+    let mut more = true;
+    let mut turns = u64::MAX;
+    while turns > 0 && more {
+        turns -= 1;
+        more = one_case(dump);
+    }
+}
+
+fn is_dump(word: &[u8]) -> bool {
+    if word.len() != 6 {
+        return false;
+    }
+    (word[0] == b'-') & (word[1] == b'-') & (word[2] == b'd')
+}
+
+fn main() {
+    let mut word = io::buffer();
+    let n = os::arg(1, &mut word);
+    all(is_dump(&word[..n]));
+}

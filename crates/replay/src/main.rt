@@ -6,6 +6,8 @@
 mod show;
 mod view;
 
+ghost use mathlib.Core.Path.{_≡_};
+ghost use lib.ListN.{length};
 ghost use Rattle.io.specs.Counts.{Counts};
 use libc::STDIN_FILENO;
 use session::Session;
@@ -174,9 +176,16 @@ fn accepts(profile: &[u8]) -> bool {
     true
 }
 
+// Room for a profile that is refused for its length too. As in io::large_buffer, the `ensures` gives only the length.
+fn profile_room() -> [u8; 131072]
+    ensures { λ r. ⌜ 131072 ≡ length r ⌝ }
+{
+    [0; 131072]
+}
+
 // The next case. Whether the recording goes on.
 fn one_case(dump: bool) -> bool {
-    let mut profile = [0u8; 131072];
+    let mut profile = profile_room();
     let id = number();
     let p = part(&mut profile);
     let steps = number();

@@ -23,7 +23,7 @@ fn put_rest(out: &mut [u8], at: usize, used: usize, saved: bool) -> usize
     printing::put_end(out, d)
 }
 
-// A buffer for 142 bytes of the first line, 102 messages of 15 and 337 calls of 93.
+// There are 142 bytes of the first line, 102 messages of 15 and 337 calls of 93: at most 33,013.
 fn done(
     n: usize,
     messages: &[u8; 306],
@@ -36,7 +36,7 @@ fn done(
     requires { ⌜ sent ≤ 102 ⌝ }
     requires { ⌜ asked ≤ 337 ⌝ }
 {
-    let mut out = [0u8; 33013];
+    let mut out = io::large_buffer();
     let a = printing::put_step(&mut out, b"event", n);
     let b = printing::put_counts(&mut out, a, sent, asked);
     let c = put_rest(&mut out, b, used, saved);

@@ -103,6 +103,13 @@ fn one_restore(n: usize, s: Session, profile: &[u8], saved: &[u8]) -> Session {
     r.session
 }
 
+fn came_to(s: Session, more: bool) -> Next {
+    Next {
+        session: s,
+        more: more,
+    }
+}
+
 // Reads and runs step n. A refused profile has its steps read and not run.
 fn one_step(dump: bool, n: usize, s: Session, profile: &[u8], accepted: bool) -> Next {
     let mut record = io::buffer();
@@ -113,25 +120,16 @@ fn one_step(dump: bool, n: usize, s: Session, profile: &[u8], accepted: bool) ->
     let room = number();
     let space = number();
     if !(kind.there & r.there & a.there & room.there & space.there) {
-        return Next {
-            session: s,
-            more: false,
-        };
+        return came_to(s, false);
     }
     if !accepted {
-        return Next {
-            session: s,
-            more: true,
-        };
+        return came_to(s, true);
     }
     let event = r.n;
     if kind.n == 1 {
         let t = one_restore(n, s, profile, &record[..event]);
         view::show_session(dump, t, profile);
-        return Next {
-            session: t,
-            more: true,
-        };
+        return came_to(t, true);
     }
     let end = a.n;
     let t = one_event(
@@ -144,10 +142,7 @@ fn one_step(dump: bool, n: usize, s: Session, profile: &[u8], accepted: bool) ->
         space.n,
     );
     view::show_session(dump, t, profile);
-    Next {
-        session: t,
-        more: true,
-    }
+    came_to(t, true)
 }
 
 // ── cases ──

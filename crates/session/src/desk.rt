@@ -105,7 +105,7 @@ pub fn no_line() -> Line
 }
 
 // The place of the channel's move among the first n, or n.
-pub fn find_move(line: Line, n: usize, channel: u8) -> usize
+fn find_move(line: Line, n: usize, channel: u8) -> usize
     requires { ⌜ n ≤ 16 ⌝ }
     ensures { λ r. ⌜ r ≡ at (isChannel channel) (take n (line .list)) ⌝ }
 {

@@ -7,7 +7,6 @@ mod shown;
 
 pub use desk::emptied_line;
 pub use desk::emptied_turns;
-pub use desk::find_move;
 pub use desk::find_turn;
 pub use desk::is_marked;
 pub use desk::last_move;

@@ -253,14 +253,14 @@ module _ (p : List ℕ) (s : Session) (ch : ℕ) (delta : ℤ) where
     unfolding seen joined encode
     unwired o q bare now answers ms cs =
         rw (encoder-ends now answers place.Nothing bare)
-        (record { outcome = q; session = refl; still = λ i. absurd (true≢false i); shaped = λ _. e; messages = refl; calls = refl })
+        (record { outcome = q; session = refl; still = λ i. absurd (true≢false i); shaped = λ _. e; messages = refl; calls = refl; few = (omega arith, omega arith) })
 
     -- a turn that is declined
     pub unturned : (k why : ℕ) → encoderPlace p (s .bank) (ch + 1) ≡ place.At k → why ≡ declinedBy (find (isDest (destAt p k)) turns) delta turns → (why ≡ 0 → ⊥) →
         TurnsAs p s ch delta (record { outcome = outcome.Refused why; session = s })
     unturned k why q d declines now answers ms cs =
         rw (encoder-ends now answers (place.At k) q, ← d, ne-eqb why 0 declines)
-        (record { outcome = refl; session = refl; still = λ _. refl; shaped = λ _. e; messages = refl; calls = refl })
+        (record { outcome = refl; session = refl; still = λ _. refl; shaped = λ _. e; messages = refl; calls = refl; few = tt })
 
     -- a turn that adds to its sum: `after` is what the sums are then
     pub turned : (k : ℕ) (after : Turns) (o : Outcome) → verdict p ≡ 0 → length (s .opened) ≡ 16 → ch < 8 → inRange delta ≡ true →
@@ -287,6 +287,7 @@ module _ (p : List ℕ) (s : Session) (ch : ℕ) (delta : ℤ) where
           shaped = λ _. shaped-again p (withTurns s after) v (record { line = f .line; turns = few; encoders = wired; silenced = f .silenced; live = f .live });
           messages = refl;
           calls = refl;
+          few = (omega arith, omega arith);
         })
 
 -- ── a fader ──

@@ -19,6 +19,7 @@ use Rattle.drivers.specs.Talk.{Stop, going, waits, declined, overrun, Talk, Got
 use Rattle.drivers.specs.Shown.{shown, stopIn}
 use Rattle.drivers.specs.Bytes.{joined, encode}
 use Rattle.drivers.specs.declared.Io.{Io}
+use Rattle.drivers.specs.declared.Call.{Call}
 use Rattle.session.specs.Session.{Turn, targetsOf}
 use Rattle.session.specs.declared.Session.{Session}
 use Rattle.session.specs.declared.Move.{Move}
@@ -33,7 +34,7 @@ use Rattle.definition.specs.Faders.{desk, inRange, nudges, writes, drain, drain
 use Rattle.definition.specs.Flash.{tickFlash}
 use Rattle.definition.specs.Live.{isDue}
 use Rattle.definition.specs.Shape.{wellShaped}
-use Rattle.definition.specs.Step.{Kept, kept, Left, rigNow, tick, tickWith, overfull, Ended, done, refused, Stepped, stepped, seen, act, refusal, finish, finished, stepIf, step}
+use Rattle.definition.specs.Step.{Kept, kept, Left, rigNow, tick, tickWith, overfull, Ended, done, refused, waiting, Stepped, stepped, seen, act, refusal, finish, finished, stepIf, step}
 use Rattle.definition.specs.Whole.{whole, offered}
 use Rattle.bounds.specs.Room.{LowInput}
 use Rattle.bounds.specs.Well.{Well}
@@ -47,7 +48,7 @@ use Rattle.delivery.specs.declared.Outcome.the-variants as outcome
 use Rattle.bridge.specs.declared.Stepped as declared
 use Rattle.bridge.specs.declared.which.Hand.the-variants as hand
 use Rattle.bridge.specs.Which.{handOf, isTick, isNothing, runs}
-use Rattle.bridge.specs.Bridge.{Delivers, declinedOf, isIdle, movedAt, turnedAt, Moves, Turns}
+use Rattle.bridge.specs.Bridge.{AtMost, Delivers, declinedOf, isIdle, movedAt, turnedAt, Moves, Turns}
 use Rattle.bridge.proofs.Fit.{shaped-again}
 
 -- ── an event that is not refused ──
@@ -127,6 +128,7 @@ declines d why p s ms cs q =
       shaped = λ h. absurd (false≢true h);
       messages = refl;
       calls = refl;
+      few = tt;
     })
 
 -- an event that did nothing
@@ -142,7 +144,20 @@ does-nothing d p s ms cs w q =
       shaped = λ h. w;
       messages = refl;
       calls = refl;
+      few = (omega arith, omega arith);
     })
+
+-- at most 102 messages and 337 calls: of an event that is not done there is nothing to count
+few-undone : (x : Ended) → isDone x ≡ false → AtMost x
+few-undone (done ms cs used saved) h = absurd (true≢false h)
+few-undone (refused why) h = tt
+few-undone (waiting c) h = tt
+
+few-done : (x : Ended) →
+    ((ms : List (List ℕ)) (cs : List Call) (used : ℕ) (saved : Bool) → x ≡ done ms cs used saved → (length ms ≤ 102) × (length cs ≤ 337)) → AtMost x
+few-done (done ms cs used saved) h = h ms cs used saved refl
+few-done (refused why) h = tt
+few-done (waiting c) h = tt
 
 module _ (p : List ℕ) (ok : verdict p ≡ 0) (s : Session) (well : Well p (seen p s)) (e : Timed) (answers : List ℕ)
     (free : refusal (e .what) (viewOf p) (seen p s) (e .time) ≡ 0) where
@@ -167,6 +182,7 @@ module _ (p : List ℕ) (ok : verdict p ≡ 0) (s : Session) (well : Well p (see
         shaped = λ h. absurd (false≢true (sym u ∙ ap isDone (sym end-is) ∙ h));
         messages = rw end-is hm;
         calls = rw end-is hc;
+        few = few-undone (step v (seen p s) e answers .ended) (ap isDone end-is ∙ u);
       }
 
   -- and one that is done leaves r, which is seen as what it left
@@ -184,6 +200,7 @@ module _ (p : List ℕ) (ok : verdict p ≡ 0) (s : Session) (well : Well p (see
         shaped = λ h. shaped-again p r (subst (λ (x : Kept). Well p x) (sym kept-is) (step-well p ok (seen p s) well e low answers)) f;
         messages = rw end-is hm;
         calls = rw end-is hc;
+        few = few-done (step v (seen p s) e answers .ended) (well-few p ok (seen p s) well e answers);
       }
 
 -- ── which event it is ──

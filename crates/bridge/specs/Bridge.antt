@@ -6,7 +6,7 @@ use mathlib.Core.List.{List, map}
 use mathlib.Core.Option.{none}
 use lib.Dec.{eqb, ltb}
 use lib.IntN.{ℤ}
-use lib.ListN.{getD}
+use lib.ListN.{length, getD}
 use lib.Ieee.{Float}
 use Rattle.base.specs.Choice.{pick}
 use Rattle.protocol.specs.declared.Event.the-variants as event
@@ -23,7 +23,7 @@ use Rattle.definition.specs.Rig.{Rig}
 use Rattle.definition.specs.Faders.{nudges, writes}
 use Rattle.definition.specs.Live.{isDue}
 use Rattle.definition.specs.Shape.{wellShaped}
-use Rattle.definition.specs.Step.{Left, Stepped, seen, act, step}
+use Rattle.definition.specs.Step.{Left, Ended, done, refused, waiting, Stepped, seen, act, step}
 use Rattle.rig.specs.declared.Current.{Current}
 use Rattle.after.specs.After.{leftOf}
 use Rattle.bridge.specs.Which.{isTick, pressIn, bankBy}
@@ -34,6 +34,12 @@ use Rattle.bridge.specs.declared.Talked as talked
 
 -- ── the promise ──
 
+-- "its messages (at most 102) and device calls (at most 337)"
+abbrev pub AtMost : Ended → Type 0
+AtMost (done ms cs used saved) = (length ms ≤ 102) × (length cs ≤ 337)
+AtMost (refused why) = Unit {0}
+AtMost (waiting c) = Unit {0}
+
 -- d is the definition's event, s the session and ms, cs the lent buffers before it; r is what is returned, ms₁ and cs₁ the buffers after it.
 -- "after a numbered refusal or a wait for an answer they and the session are untouched"
 pub record Delivers (d : Stepped) (p : List ℕ) (s : Session) (ms cs : List ℕ) (r : declared.Stepped) (ms₁ cs₁ : List ℕ) : Type 0 where
@@ -43,6 +49,7 @@ pub record Delivers (d : Stepped) (p : List ℕ) (s : Session) (ms cs : List ℕ
   pub shaped : isDone (d .ended) ≡ true → wellShaped p (r .session) ≡ true
   pub messages : ms₁ ≡ messagesAfter (d .ended) ms
   pub calls : cs₁ ≡ callsAfter (d .ended) cs
+  pub few : AtMost (d .ended)
 
 -- ── steps on the way ──
 

@@ -54,11 +54,9 @@ pub record Delivers (d : Stepped) (p : List ℕ) (s : Session) (ms cs : List ℕ
 -- ── steps on the way ──
 
 -- the lowest number from 1 to 9 that declines the event, or 0; "Number 7" is of the saved records alone
-abbrev pub declinedIf : List ℕ → Bool → ℕ → ℕ → ℕ
-declinedIf p well messages calls = pick (eqb (verdict p) 0) (pick well (pick (ltb messages 306 || ltb calls 5392) 9 0) 8) (verdict p)
-
 abbrev pub declinedOf : List ℕ → Session → ℕ → ℕ → ℕ
-declinedOf p s messages calls = declinedIf p (wellShaped p s) messages calls
+declinedOf p s messages calls =
+    pick (eqb (verdict p) 0) (pick (wellShaped p s) (pick (ltb messages 306 || ltb calls 5392) 9 0) 8) (verdict p)
 
 -- a bank with its live faders, within their places; a list that is not known counts as empty
 pub record IsCurrent (l : Live) (b : ℕ) (c : Current) : Type 0 where

@@ -40,7 +40,7 @@ ghost use Rattle.rig.specs.Seen.{rigIn};
 ghost use Rattle.bridge.specs.Which.{runs};
 ghost use Rattle.bounds.specs.Room.{LowInput};
 ghost use Rattle.delivery.specs.declared.Outcome.the-variants as outcome;
-ghost use Rattle.bridge.specs.Bridge.{Delivers, declinedIf, IsCurrent, isIdle, drainIf, Moves as MovesAs, Turns as TurnsAs, settingOf, Talks};
+ghost use Rattle.bridge.specs.Bridge.{Delivers, IsCurrent, isIdle, drainIf, Moves as MovesAs, Turns as TurnsAs, settingOf, Talks};
 
 pub struct Stepped {
     pub outcome: Outcome,
@@ -442,24 +442,7 @@ fn on_event(
     }
 }
 
-// The lowest number from 1 to 9 that declines the event, or 0; `well` says whether the session is well shaped. Number 7 is of the saved records alone.
-fn declined(profile: &[u8], well: bool, room: usize, space: usize) -> u8
-    ensures { λ r. ⌜ r ≡ declinedIf (now (profile .entry)) well room space ⌝ }
-{
-    let why = profile::examine(profile);
-    if why != 0 {
-        return why;
-    }
-    if !well {
-        return 8;
-    }
-    if (room < 306) | (space < 5392) {
-        return 9;
-    }
-    0
-}
-
-// One event. A refused or waiting one leaves the session and all lent memory as they were.
+// One event. A refused or waiting one leaves the session and all lent memory as they were. Number 7 is of the saved records alone.
 pub fn step(
     session: Session,
     profile: &[u8],
@@ -470,11 +453,22 @@ pub fn step(
 ) -> Stepped
     ensures { λ r. ⌜ Delivers (whole (now (profile .entry)) session (now (event .entry)) (now (answers .entry)) (length (now (messages .entry))) (length (now (calls .entry)))) (now (profile .entry)) session (now (messages .entry)) (now (calls .entry)) r (now (messages .exit)) (now (calls .exit)) ⌝ }
 {
-    let well = shape::shaped(session, profile);
-    let why = declined(profile, well, messages.len(), calls.len());
+    let why = profile::examine(profile);
     if why != 0 {
         return Stepped {
             outcome: Outcome::Refused(why),
+            session: session,
+        };
+    }
+    if !shape::shaped(session, profile) {
+        return Stepped {
+            outcome: Outcome::Refused(8),
+            session: session,
+        };
+    }
+    if (messages.len() < 306) | (calls.len() < 5392) {
+        return Stepped {
+            outcome: Outcome::Refused(9),
             session: session,
         };
     }

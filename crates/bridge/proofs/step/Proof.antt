@@ -1,33 +1,75 @@
+-- `bridge::step` meets its contract. Assumes nothing.
+use Prim.Native.Nat.{ℕ}
 use native.Mathlib.Omega.{arith}
 use mathlib.Core.Path.{_≡_, sym, _∙_}
 use lib.ListN.{length}
+use borrow.Author.Tests.{not-true, not-false, eq-eqb, ne-eqb}
 use Rattle.bounds.specs.Channels.{read-low}
-use Rattle.bridge.specs.Bridge.{declinedOf}
-use Rattle.bridge.proofs.StepLaws.{declines, whole-declines, passes, passes-on, unread}
+use Rattle.definition.specs.Whole.{whole}
+use Rattle.delivery.specs.declared.Outcome.the-variants as outcome
+use Rattle.bridge.specs.Bridge.{Delivers, declinedOf}
+use Rattle.bridge.proofs.StepLaws.{stepOf, declines, whole-declines, passes, passes-on, unread}
 use borrow.Author.Needs.{needs}
 use Rattle.bridge.proofs.step.Statement.{statement}
 use Rattle.bridge.proofs.step.Tie as tie
 
--- where the numbers 1 to 9 were tried, the event's start
-abbrev begun : tie.After-declined → tie.Start
-begun d = d .before .before .before .before .before .before .before
+-- where the profile was examined, the event's start
+abbrev begun : tie.After-examine → tie.Start
+begun x = x .before .before .before .before .before .before
 
-why : (d : tie.After-declined) →
-    let start = begun d in
-    declinedOf (start .args .profile .now) (start .args .session) (length (start .args .messages .now)) (length (start .args .calls .now)) ≡ d .declined .result
-why d = rw (← d .before .shaped .ensures) (sym (d .declined .ensures))
+-- what the numbers 1 to 9 say of the event
+abbrev numberOf : tie.After-examine → ℕ
+numberOf x =
+    let b = begun x in
+    declinedOf (b .args .profile .now) (b .args .session) (length (b .args .messages .now)) (length (b .args .calls .now))
+
+-- an event that one of them declines
+declined-by : (x : tie.After-examine) (why : ℕ) → numberOf x ≡ why → (why ≡ 0 → ⊥) →
+    let b = begun x in
+    Delivers
+    (whole (b .args .profile .now) (b .args .session) (b .args .event .now) (b .args .answers .now) (length (b .args .messages .now)) (length (b .args .calls .now)))
+    (b .args .profile .now) (b .args .session) (b .args .messages .now) (b .args .calls .now) (stepOf (outcome.Refused why) (b .args .session)) (b .args .messages .now)
+    (b .args .calls .now)
+declined-by x why q n =
+    let b = begun x in
+    declines _ why _ _ _ _ (whole-declines (b .args .profile .now) (b .args .session) (b .args .event .now) (b .args .answers .now) _ _ why q n)
+
+-- one that none of them declines
+passed : (r : tie.After-read-event) → numberOf (r .before .before .before .before .before) ≡ 0
+passed r =
+    rw (
+      ← r .before .before .before .before .before .examine .ensures,
+      eq-eqb _ _ (r .before .before .before .before .if1 .left),
+      ← r .before .before .before .shaped .ensures,
+      not-false (r .before .before .before .shaped .result) (r .before .before .if2 .left),
+      r .before .if3 .left,
+    )
+
+examine-requires : tie.Need-examine-requires
+examine-requires c κs = search needs
+
+returns : tie.Need-returns
+returns c = declined-by (c .before) _ (rw (← c .before .examine .ensures, ne-eqb _ _ (c .if1 .taken))) (c .if1 .taken)
 
 shaped-requires : tie.Need-shaped-requires
 shaped-requires c κs = search needs
 
-declined-requires : tie.Need-declined-requires
-declined-requires c κs = search needs
+returns-2 : tie.Need-returns-2
+returns-2 c =
+    declined-by (c .before .before .before) 8
+    (rw (← c .before .before .before .examine .ensures, eq-eqb _ _ (c .before .before .if1 .left), ← c .before .shaped .ensures, not-true (c .before .shaped .result) (c .if2 .taken)))
+    (λ q. omega arith)
 
-returns : tie.Need-returns
-returns c =
-    let d = c .before in
-    let start = begun d in
-    declines _ _ _ _ _ _ (whole-declines (start .args .profile .now) (start .args .session) _ _ _ _ _ (why d) (c .if1 .taken))
+returns-3 : tie.Need-returns-3
+returns-3 c =
+    declined-by (c .before .before .before .before) 9
+    (rw (
+      ← c .before .before .before .before .examine .ensures,
+      eq-eqb _ _ (c .before .before .before .if1 .left),
+      ← c .before .before .shaped .ensures,
+      not-false (c .before .before .shaped .result) (c .before .if2 .left),
+      c .if3 .taken,
+    )) (λ q. omega arith)
 
 read-event-requires : tie.Need-read-event-requires
 read-event-requires c κs = search needs
@@ -37,11 +79,21 @@ enum-known-e c = search needs
 
 on-event-requires : tie.Need-on-event-requires
 on-event-requires c κs =
-    let d = c .before .before .before .before .before .before .before in
-    let start = begun d in
-    let read = c .before .before .before .before .before .read-event in
-    let w = passes (start .args .profile .now) (start .args .session) (start .args .event .now) (start .args .answers .now) _ _ (why d ∙ c .before .before .before .before .before .before .if1 .left) in
-    (w .accepted, (w .shaped, (w .messages, (w .calls, read-low (start .args .event .now) (λ j. omega (arith, c .before .before .before .before .before .before .before .before .before .before .before .before .shared-slice-known2 .given j)) _ (sym (read .ensures) ∙ c .before .before .before .e .given .1)))))
+    let r = c .before .before .before .before .before in
+    let b = begun (r .before .before .before .before .before) in
+    let w = passes (b .args .profile .now) (b .args .session) (b .args .event .now) (b .args .answers .now) _ _ (passed r) in (
+      w .accepted,
+      (
+        w .shaped,
+        (
+          w .messages,
+          (
+            w .calls,
+            read-low (b .args .event .now) (λ j. omega (arith, c .before .before .before .before .before .before .before .before .before .before .before .before .before .before .shared-slice-known2 .given j)) _ (sym (r .read-event .ensures) ∙ c .before .before .before .e .given .1),
+          ),
+        ),
+      ),
+    )
 
 enum-told : tie.Need-enum-told
 enum-told c = search needs
@@ -52,35 +104,35 @@ same-length c = search needs
 same-length-2 : tie.Need-same-length-2
 same-length-2 c = search needs
 
-returns-2 : tie.Need-returns-2
-returns-2 c =
-    let d = c .before .before .before .before .before .before .before .before .before .before .before .before in
-    let start = begun d in
-    let read = c .before .before .before .before .before .before .before .before .before .before .read-event in
-    passes-on (start .args .profile .now) (start .args .session) (start .args .event .now) (start .args .answers .now) _ _
-    (why d ∙ c .before .before .before .before .before .before .before .before .before .before .before .if1 .left) (read .result) _ (read .ensures) (c .before .before .before .before .before .before .before .before .e .given .1) _ _ _ _ _ (c .before .before .before .before .on-event .ensures)
+returns-4 : tie.Need-returns-4
+returns-4 c =
+    let r = c .before .before .before .before .before .before .before .before .before .before in
+    let b = begun (r .before .before .before .before .before) in
+    passes-on (b .args .profile .now) (b .args .session) (b .args .event .now) (b .args .answers .now) _ _ (passed r) (r .read-event .result) _ (r .read-event .ensures)
+    (c .before .before .before .before .before .before .before .before .e .given .1) _ _ _ _ _ (c .before .before .before .before .on-event .ensures)
 
-returns-3 : tie.Need-returns-3
-returns-3 c =
-    let d = c .before .before .before .before in
-    let start = begun d in
-    let read = c .before .before .read-event in
+returns-5 : tie.Need-returns-5
+returns-5 c =
+    let r = c .before .before in
+    let b = begun (r .before .before .before .before .before) in
     declines _ 10 _ _ _ _
-    (unread (start .args .profile .now) (start .args .session) (start .args .event .now) (start .args .answers .now) _ _
-    (why d ∙ c .before .before .before .if1 .left) (read .result) (read .ensures) (c .enum-told .given .1))
+    (unread (b .args .profile .now) (b .args .session) (b .args .event .now) (b .args .answers .now) _ _ (passed r) (r .read-event .result) (r .read-event .ensures)
+    (c .enum-told .given .1))
 
 pub step-spec : {M : Type 1} → statement M
 step-spec =
     tie.close
     (tie.spec
-    shaped-requires
-    declined-requires
+    examine-requires
     returns
+    shaped-requires
+    returns-2
+    returns-3
     read-event-requires
     enum-known-e
     on-event-requires
     enum-told
     same-length
     same-length-2
-    returns-2
-    returns-3)
+    returns-4
+    returns-5)

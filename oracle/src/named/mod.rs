@@ -59,6 +59,9 @@ pub fn all() -> Vec<Named> {
     steps::add(&mut all);
     answers::add(&mut all);
     profiles::add(&mut all);
+    // Behind the families of which the program `recorded` takes every tenth, so that those keep their places.
+    scenes::add_restored(&mut all);
+    profiles::add_edges(&mut all);
     most::add(&mut all);
     steps::add_long(&mut all);
     all.cases

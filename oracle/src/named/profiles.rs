@@ -2,7 +2,7 @@
 
 use super::All;
 use crate::cases::{
-    bank, button, encoder, fader, file, plain, scene, settings, step, tick, to, transport, BankIs, Record, G,
+    bank, button, encoder, fader, file, plain, restore, scene, settings, step, tick, to, transport, BankIs, Record, G,
 };
 
 const OK: &str = "event 0 done *";
@@ -23,6 +23,18 @@ fn every_kind() -> Vec<Record> {
         button(3, 0, 1),
     ]
 }
+
+/// Places of records in `every_kind`.
+const SETTINGS: usize = 0;
+const BANK: usize = 1;
+const FADER: usize = 3;
+const GLOBAL_FADER: usize = 4;
+const ENCODER: usize = 5;
+const GLOBAL_ENCODER: usize = 6;
+const SCENE: usize = 7;
+const TRANSPORT: usize = 8;
+const GLOBAL_TRANSPORT: usize = 9;
+const BUTTON: usize = 10;
 
 fn ticks() -> Vec<crate::recording::Step> {
     vec![step(tick(0.0), &[])]
@@ -76,16 +88,6 @@ fn lengths(all: &mut All) {
 }
 
 fn fields(all: &mut All) {
-    const SETTINGS: usize = 0;
-    const BANK: usize = 1;
-    const FADER: usize = 3;
-    const GLOBAL_FADER: usize = 4;
-    const ENCODER: usize = 5;
-    const GLOBAL_ENCODER: usize = 6;
-    const SCENE: usize = 7;
-    const TRANSPORT: usize = 8;
-    const GLOBAL_TRANSPORT: usize = 9;
-    const BUTTON: usize = 10;
     let absent = [255, 255];
     let edge = [254, 255];
     let table: &[(&str, usize, usize, &[u8], u8)] = &[
@@ -392,4 +394,56 @@ fn lowest_first(all: &mut All) {
         },
         1,
     );
+}
+
+/// More fields at their edges, and every unused byte.
+pub fn add_edges(all: &mut All) {
+    let edge = [254, 255];
+    for (name, at, byte, value) in [
+        ("encoder: byte 14", ENCODER, 14, 1),
+        ("encoder: bank 16", ENCODER, 1, 16),
+        ("encoder: bank 254", ENCODER, 1, 254),
+        ("global encoder: number 9", GLOBAL_ENCODER, 2, 9),
+        ("transport: bank 254", TRANSPORT, 1, 254),
+    ] {
+        put(all, &format!("field {name}"), changed(at, byte, &[value]), 2);
+    }
+    for (name, at, byte, values) in [
+        ("fader: target 0", FADER, 6, [0, 0]),
+        ("fader: target 65534", FADER, 6, edge),
+        ("fader: group 65534", FADER, 10, edge),
+        ("encoder: target 0", ENCODER, 6, [0, 0]),
+        ("encoder: target 65534", ENCODER, 6, edge),
+        ("encoder: group 65534", ENCODER, 10, edge),
+        ("scene: name 65534", SCENE, 4, edge),
+        ("transport: target 0", TRANSPORT, 6, [0, 0]),
+        ("transport: target 65534", TRANSPORT, 6, edge),
+        ("transport: command 65534", TRANSPORT, 8, edge),
+        ("button: command 0", BUTTON, 4, [0, 0]),
+    ] {
+        accepted(all, &format!("field {name}"), changed(at, byte, &values));
+    }
+    let mut last = vec![settings(false, false)];
+    last.extend((0..16).map(|b| bank(b, plain(2))));
+    last.extend([scene(15, 20), transport(15, 13, 3, 7, 6)]);
+    accepted(all, "field scene and transport: bank 15", file(&last));
+    let unused: [(&str, usize, &[std::ops::Range<usize>]); 7] = [
+        ("settings", SETTINGS, &[1..2, 4..32]),
+        ("bank", BANK, &[2..4, 12..32]),
+        ("fader", FADER, &[14..16]),
+        ("encoder", ENCODER, &[14..16]),
+        ("scene", SCENE, &[2..4, 6..32]),
+        ("transport", TRANSPORT, &[3..4, 10..32]),
+        ("button", BUTTON, &[3..4, 6..32]),
+    ];
+    for (name, at, runs) in unused {
+        for byte in runs.iter().cloned().flatten() {
+            put(all, &format!("field {name}: 128 in unused byte {byte}"), changed(at, byte, &[128]), 2);
+        }
+    }
+}
+
+/// An accepted profile: a restore and a tick go through.
+fn accepted(all: &mut All, name: &str, profile: Vec<u8>) {
+    all.put(name, profile, [vec![restore(&[])], ticks()].concat(), "restore 0 done\nevent 1 done *");
 }

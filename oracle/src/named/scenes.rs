@@ -465,3 +465,89 @@ fn saved(all: &mut All) {
         all.add(&format!("restore: {what}"), &profile, vec![first, restore(&records)], says);
     }
 }
+
+/// Sessions that were restored before the event that counts.
+pub fn add_restored(all: &mut All) {
+    let own = |name: u16| BankIs { driver: 3, rec: 1, ..plain(name) };
+    all.add(
+        "equal bank names, both with a position: saving takes the last",
+        &[settings(false, true), bank(0, own(40)), bank(1, own(40)), scene(0, 20), scene(1, 20)],
+        vec![
+            restore(&[saved_scene(40, 7)]),
+            step(pressed(0x2F, 0.0), &[]),
+            step(pressed(RIGHT, 0.0), &[done(), nothing(), scenes(&[20]), done()]),
+        ],
+        "event 1 done *
+         ...
+         saved 01002800000000000200280007000000
+         = bank 1
+         event 2 done *
+         ...
+         call load 3 0 0 *
+         saved 01002800000000000200280000000000
+         = scene 0 7
+         = scene 1 0",
+    );
+    all.add(
+        "a bank without a driver, two drivers as frequent: the first of the two, not of the bank, not the last",
+        &[
+            settings(false, true),
+            bank(0, plain(2)),
+            bank(1, plain(3)),
+            fader(0, 1, to(4, 7)),
+            fader(1, 1, to(6, 7)),
+            fader(1, 2, to(5, 7)),
+            fader(1, 3, to(5, 7)),
+            fader(1, 4, to(4, 7)),
+            fader(1, 5, to(4, 7)),
+        ],
+        vec![restore(&[saved_device(3)]), step(pressed(RIGHT, 0.0), &[refused()])],
+        "event 1 done messages 0 calls 1 used 1 saved 0\ncall open 5 0 0 0000000000000000",
+    );
+    all.add(
+        "the lamp of the R that loaded a scene stays on over a change of bank",
+        &[settings(false, true), bank(0, own(2)), bank(1, own(3)), scene(0, 20), scene(1, 20), scene(1, 21)],
+        vec![
+            restore(&[saved_device(3)]),
+            step(pressed(0x01, 0.0), &[done(), scenes(&[20, 21]), done()]),
+            step(pressed(0x2E, 0.0), &[]),
+        ],
+        "event 1 done *
+         = bank 1
+         = loaded 2
+         event 2 done *
+         ...
+         message 900000
+         ...
+         message 90017f
+         ...
+         message 900200
+         ...
+         saved *
+         = bank 0
+         = loaded 2
+         ! scene 0 *",
+    );
+    all.add(
+        "rec without an action, the default is scene, its target absent: it runs as a command of no name, or loads",
+        &[settings(false, true), bank(0, plain(2)), fader(0, 1, to(3, ABSENT)), fader(0, 2, to(3, 9)), button(3, 0, 1)],
+        vec![
+            restore(&[saved_scene(2, 1)]),
+            step(pressed(0x00, 0.0), &[refused(), done(), done()]),
+            step(pressed(0x00, 0.0), &[scenes(&[20]), scenes(&[20]), done()]),
+        ],
+        "event 1 done messages 0 calls 3 used 3 saved 0
+         call open 3 0 0 *
+         call open 3 0 0 *
+         call command 3 0 1 0000000000000000
+         = loaded 0
+         event 2 done messages 34 calls * saved 1
+         ...
+         call scenes 3 0 0 *
+         call scenes 3 0 0 *
+         call load 3 0 0 *
+         saved *
+         = loaded 1
+         = scene 0 0",
+    );
+}

@@ -4,7 +4,8 @@
 //! `describe` and `state` hold what those two need of their neighbours. The rest is the record layer around
 //! them: `names` (strings as numbers), `records` (profile, events, saved records), `line` (calls and
 //! answers), `session` (one event with its outcome), `recording` (cases for replay), and what makes and checks
-//! cases: `random`, `cases`, `device`, `generate`, `named`, `primitives`, `expect`, `hashes`.
+//! cases: `random`, `cases`, `device`, `generate`, `named`, `primitives`, `examined`, `table`, `expect`,
+//! `hashes`.
 
 #[macro_use]
 mod branch;
@@ -17,6 +18,7 @@ pub mod counters;
 pub mod describe;
 pub mod device;
 pub mod drivers;
+pub mod examined;
 pub mod expect;
 pub mod generate;
 pub mod hashes;
@@ -32,3 +34,4 @@ pub mod recording;
 pub mod records;
 pub mod session;
 pub mod state;
+pub mod table;

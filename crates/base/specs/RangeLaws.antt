@@ -22,6 +22,15 @@ pub or-cases : (a b : Bool) → (a || b) ≡ true → (a ≡ true) ⊎ (b ≡ tr
 or-cases true b e = inl refl
 or-cases false b e = inr e
 
+-- the two halves of an or that is false
+pub or-left-no : (a b : Bool) → (a || b) ≡ false → a ≡ false
+or-left-no true b e = e
+or-left-no false b e = refl
+
+pub or-right-no : (a b : Bool) → (a || b) ≡ false → b ≡ false
+or-right-no true b e = absurd (false≢true (sym e))
+or-right-no false b e = e
+
 pub bit-le : (b : Bool) → bit b ≤ 1
 bit-le true = omega arith
 bit-le false = omega arith

@@ -10,6 +10,7 @@ use lib.IntN.{ℤ}
 use lib.Ieee.{Float}
 use borrow.Author.Tests.{eqb-true, eq-eqb, ne-eqb, ltb-false}
 use Rattle.base.specs.Choice.{pick}
+use Rattle.base.specs.RangeLaws.{or-left-no, or-right-no}
 use Rattle.base.specs.Keyed.{beside}
 use Rattle.protocol.specs.declared.Button.{Button}
 use Rattle.protocol.specs.declared.Event.the-variants as event
@@ -215,10 +216,6 @@ runs-low input.PushState h = tt
 runs-low input.PushTransport h = tt
 runs-low input.FlashBank h = tt
 
-pub or-left-no : (a b : Bool) → (a || b) ≡ false → a ≡ false
-or-left-no true b h = absurd (true≢false h)
-or-left-no false b h = refl
-
 pub others-run : (what : Input) → handOf what ≡ hand.None → isNothing what ≡ false → runs what ≡ true
 others-run (input.Midi (event.Fader ch x)) h n = let z : _≡_ {A = ℕ} 0 1 = cc in absurd (omega arith)
 others-run (input.Midi (event.Encoder ch d)) h n = let z : _≡_ {A = ℕ} 0 1 = cc in absurd (omega arith)
@@ -379,10 +376,6 @@ module _ (p : List ℕ) (s : Session) (event-bytes answers : List ℕ) (m c : �
     pub calls : 5392 ≤ c
     pub so : whole p s event-bytes answers m c ≡ offered (readOf event-bytes) p (seen p s) answers
 
-  or-no : (a b : Bool) → (a || b) ≡ false → (a ≡ false) × (b ≡ false)
-  or-no true b h = absurd (true≢false h)
-  or-no false b h = (refl, h)
-
   pub passes : declinedOf p s m c ≡ 0 → Passes
   unfolding whole
   passes q = verdict-at (eqb (verdict p) 0) refl (wellShaped p s) refl (ltb m 306 || ltb c 5392) refl q
@@ -390,12 +383,11 @@ module _ (p : List ℕ) (s : Session) (event-bytes answers : List ℕ) (m c : �
       verdict-at : (b : Bool) → eqb (verdict p) 0 ≡ b → (w : Bool) → wellShaped p s ≡ w → (r : Bool) → (ltb m 306 || ltb c 5392) ≡ r →
           pick b (pick w (pick r 9 0) 8) (verdict p) ≡ 0 → Passes
       verdict-at true i true j false k h =
-          let few = or-no (ltb m 306) (ltb c 5392) k in
           record {
             accepted = eqb-true (verdict p) 0 i;
             shaped = j;
-            messages = ltb-false m 306 (few .0);
-            calls = ltb-false c 5392 (few .1);
+            messages = ltb-false m 306 (or-left-no (ltb m 306) (ltb c 5392) k);
+            calls = ltb-false c 5392 (or-right-no (ltb m 306) (ltb c 5392) k);
             so = rw (i, j, k);
           }
       verdict-at true i true j true k h = absurd (omega arith)

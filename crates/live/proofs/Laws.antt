@@ -9,6 +9,7 @@ use native.Mathlib.Omega.{arith}
 use lib.Dec.{eqb}
 use lib.ListN.{take}
 use borrow.Author.Tests.{eq-eqb}
+use Rattle.base.specs.RangeLaws.{or-right-no}
 use Rattle.profile.specs.Profile.{verdict}
 use Rattle.lookup.specs.Lookup.{deviceOf}
 use Rattle.lookup.specs.Known.{known-device}
@@ -49,10 +50,6 @@ later-list s l r e h = go (s .known) e h
 
 -- ── the bank's driver ──
 
-or-right : (a b : Bool) → (a || b) ≡ false → b ≡ false
-or-right true b e = let z : _≡_ {A = Bool} true false = e in cc
-or-right false b e = e
-
 -- a bank that has a driver has one of 0 to 15
 pub low-device : (p : List ℕ) → verdict p ≡ 0 → (bank which name : ℕ) → name ≡ deviceOf p bank → (eqb which 65535 || eqb name 65535) ≡ false → name ≤ 15
 low-device p ok bank which name d e = go (known-device p ok bank)
@@ -60,7 +57,7 @@ low-device p ok bank which name d e = go (known-device p ok bank)
     go : (deviceOf p bank ≤ 15) ⊎ (deviceOf p bank ≡ 65535) → name ≤ 15
     go (inl h) = rw d h
     go (inr h) =
-        let q : _≡_ {A = Bool} true false = sym (eq-eqb name 65535 (d ∙ h)) ∙ or-right (eqb which 65535) (eqb name 65535) e in
+        let q : _≡_ {A = Bool} true false = sym (eq-eqb name 65535 (d ∙ h)) ∙ or-right-no (eqb which 65535) (eqb name 65535) e in
         let z : _≡_ {A = ℕ} 0 1 = cc in
         absurd (omega arith)
 

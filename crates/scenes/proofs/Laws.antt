@@ -12,6 +12,7 @@ use lib.Seq.{getD-take, length-take-le}
 use borrow.Author.Tests.{not-true, not-false, eq-eqb, ne-eqb, lt-ltb, le-ltb, le-leb, leb-true, leb-false, eqb-false}
 use Rattle.base.specs.Choice.{pick}
 use Rattle.base.specs.First.{first}
+use Rattle.base.specs.RangeLaws.{or-left-no, or-right-no}
 use Rattle.base.specs.FirstLaws.{first-at, first-more, first-hit, first-done}
 use Rattle.base.specs.declared.Place.{Place}
 use Rattle.base.specs.declared.Place.the-variants as place
@@ -219,21 +220,13 @@ pub load-flash : (bank i : ℕ) (l k : Lamps) → k ≡ afterLoad bank i l → k
 unfolding noneNoted soloTo sceneTo
 load-flash bank i l k p = ap (λ (x : Lamps). x .flash) p
 
-or-right : (a b : Bool) → (a || b) ≡ false → b ≡ false
-or-right true b e = let z : _≡_ {A = Bool} true false = e in cc
-or-right false b e = e
-
-or-left : (a b : Bool) → (a || b) ≡ false → a ≡ false
-or-left true b e = e
-or-left false b e = refl
-
 -- a test of a device and a place in the list that was not met
 module _ (name n i : ℕ) (e : (eqb name 65535 || leb n i) ≡ false) where
   pub is-there : name ≡ 65535 → ⊥
-  is-there = eqb-false name 65535 (or-left (eqb name 65535) (leb n i) e)
+  is-there = eqb-false name 65535 (or-left-no (eqb name 65535) (leb n i) e)
 
   pub in-list : i < n
-  in-list = leb-false n i (or-right (eqb name 65535) (leb n i) e)
+  in-list = leb-false n i (or-right-no (eqb name 65535) (leb n i) e)
 
 -- the names that are offered, n of them, and the line u after them
 module _ (r : Rig) (s : List ℕ) (i : ℕ) (l : Lamps) (t : Talk) (names : List ℕ) (u : Talk) (g : got names u ≡ sceneNames (r .here) t) (name : ℕ)

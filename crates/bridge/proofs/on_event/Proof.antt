@@ -3,9 +3,10 @@ use mathlib.Core.Bool.{true}
 use lib.IntN.{ℤ}
 use mir.Syntax.{w32}
 use mir.ValLaws.{toZ-ofZ}
+use Rattle.base.specs.RangeLaws.{or-left-no}
 use Rattle.definition.specs.Faders.{inRange}
 use Rattle.bridge.specs.Bridge.{Turns}
-use Rattle.bridge.proofs.StepLaws.{does-nothing, nothing-done, low-move, low-turn, others-run, or-left-no, moves-so, turns-so}
+use Rattle.bridge.proofs.StepLaws.{does-nothing, nothing-done, low-move, low-turn, others-run, moves-so, turns-so}
 use borrow.Author.Needs.{needs}
 use Rattle.bridge.proofs.on_event.Statement.{statement}
 use Rattle.bridge.proofs.on_event.Tie as tie

@@ -232,6 +232,14 @@ module _ {A : Type 0} (f : A → Bool) (d : A) where
       go true k = k
       go false k = refl
 
+  -- each of an array's first n passes
+  pub each : (xs : List A) (n i : ℕ) → n ≤ length xs → i < n → allOf f (take n xs) ≡ true → f (getD xs i d) ≡ true
+  each xs n i l h e = go (f (getD xs i d)) refl
+    where
+      go : (b : Bool) → f (getD xs i d) ≡ b → b ≡ true
+      go true q = refl
+      go false q = absurd (true≢false (sym e ∙ every-stop xs i n h l q))
+
 module _ {A : Type 0} (same : A → A → Bool) (d : A) where
   -- the i-th against those before it
   abbrev again : List A → ℕ → A → Bool

@@ -139,14 +139,6 @@ range-small (negsuc n) e = let h : n ≤ 999999 = leb-true n 999999 (and-left (l
 range-fits : (x y : ℤ) → inRange x ≡ true → inRange y ≡ true → SFits w32 (x +ℤ y)
 range-fits x y h k = small-fits (x +ℤ y) (sum-small x y 1000000 1000000 (range-small x h) (range-small y k))
 
--- each of an array's first n passes
-each : {A : Type 0} (f : A → Bool) (d : A) (xs : List A) (n i : ℕ) → n ≤ length xs → i < n → allOf f (take n xs) ≡ true → f (getD xs i d) ≡ true
-each f d xs n i l h e = go (f (getD xs i d)) refl
-  where
-    go : (b : Bool) → f (getD xs i d) ≡ b → b ≡ true
-    go true q = refl
-    go false q = absurd (true≢false (sym e ∙ keyed.every-stop f d xs i n h l q))
-
 unfound : {A : Type 0} (f : A → Bool) (l : List A) → anyOf f l ≡ false → find f l ≡ none
 unfolding anyOf find
 unfound f [] e = refl
@@ -167,7 +159,7 @@ module _ (p : List ℕ) (t : Turns) (lk : length (t .records) ≡ 136) (ln : len
   sums-fit delta small good i h =
       let same : allOf goodTurn (seenTurns p t) ≡ allOf inRange (take (t .count) (t .sums)) =
       side.beside-all (turnAt p) goodTurn inRange (λ x y. refl) (take (t .count) (t .records)) (take (t .count) (t .sums)) (omega (arith, upto-records, upto-sums)) in
-      range-fits (getD (t .sums) i (pos 0)) delta (each inRange (pos 0) (t .sums) (t .count) i (omega arith) h (sym same ∙ good)) small
+      range-fits (getD (t .sums) i (pos 0)) delta (keyed.each inRange (pos 0) (t .sums) (t .count) i (omega arith) h (sym same ∙ good)) small
 
   -- a turn that is not declined has a place
   pub turn-room : (k : ℕ) (delta : ℤ) → allOf (isEncoder p) (take (t .count) (t .records)) ≡ true → isEncoder p k ≡ true → SumsFit (t .sums) (t .count) delta →

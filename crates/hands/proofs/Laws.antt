@@ -16,7 +16,7 @@ use mir.Syntax.{w32}
 use mir.Val.{SFits, toZ, ofZ}
 use mir.ValLaws.{toZ-ofZ}
 use borrow.Author.Tests.{ltb-true, ltb-false, lt-leb, le-leb, not-true, not-false}
-use Rattle.base.specs.Keyed.{at, find, allOf, beside}
+use Rattle.base.specs.Keyed.{at, find, beside}
 use Rattle.base.specs.KeyedLaws as laws
 use Rattle.base.specs.BesideLaws as side
 use Rattle.float.specs.Leaf.{nudge}
@@ -93,14 +93,6 @@ either false b = refl
 -- under the least or over the greatest
 pub outside : (low high z : ℤ) → (ltZ z low || ltZ high z) ≡ not (leZ low z && leZ z high)
 outside low high z = rw (below z low, below high z) (either (leZ low z) (leZ z high))
-
--- ── each of an array's first n passes ──
-pub each : {A : Type 0} (f : A → Bool) (d : A) (xs : List A) (n i : ℕ) → n ≤ length xs → i < n → allOf f (take n xs) ≡ true → f (getD xs i d) ≡ true
-each f d xs n i l h e = go (f (getD xs i d)) refl
-  where
-    go : (b : Bool) → f (getD xs i d) ≡ b → b ≡ true
-    go true q = refl
-    go false q = absurd (true≢false (sym e ∙ laws.every-stop f d xs i n h l q))
 
 -- ── the sums, one more at a time ──
 

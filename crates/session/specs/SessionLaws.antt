@@ -2,7 +2,7 @@
 -- every channel. A driver's list without a number twice has at most eight faders on the surface. Assumes nothing.
 use Prim.Native.Nat.{ℕ, zero, suc, _-_, _≤_, _<_}
 use mathlib.Core.Path.{_≡_, refl, sym, ap, _∙_}
-use mathlib.Core.Bool.{Bool, true, false, true≢false, _&&_}
+use mathlib.Core.Bool.{Bool, true, false, _&&_}
 use mathlib.Core.List.{List, [], _∷_, map}
 use mathlib.Core.Option.{some}
 use native.Mathlib.Omega.{arith}
@@ -14,7 +14,7 @@ use lib.Ieee.{Float, nan}
 use borrow.Author.Tests.{lt-ltb, ltb-true, leb-true, ne-eqb, eqb-false}
 use Rattle.base.specs.Choice.{pick}
 use Rattle.base.specs.Keyed.{anyOf, allOf, change, keep, noTwice, beside}
-use Rattle.base.specs.KeyedLaws.{every-stop}
+use Rattle.base.specs.KeyedLaws.{each}
 use Rattle.base.specs.RangeLaws.{and-left, and-right}
 use Rattle.base.specs.Pigeon.{pigeon, has-room-for, every-change, once-change, left-of, right-of, first-no, rest-no, no-left, no-right}
 use Rattle.profile.specs.Profile.{records, isKind}
@@ -178,14 +178,9 @@ turn-once l d n e = same-change sameTurn (isDest d) (addTo n) (firstTurn d n) (�
 
 -- of the first n records, which are encoders', each is in the file
 pub encoder-in-file : (p ks : List ℕ) (n i : ℕ) → n ≤ length ks → i < n → allOf (isEncoder p) (take n ks) ≡ true → getD ks i 0 < records p
-encoder-in-file p ks n i l h e = go (isEncoder p k) refl
-  where
-    k : ℕ
-    k = getD ks i 0
-
-    go : (b : Bool) → isEncoder p k ≡ b → k < records p
-    go true q = ltb-true k (records p) (and-left (ltb k (records p)) (isKind p 3 k) q)
-    go false q = absurd (true≢false (sym e ∙ every-stop (isEncoder p) 0 ks i n h l q))
+encoder-in-file p ks n i l h e =
+    let k : ℕ = getD ks i 0 in
+    ltb-true k (records p) (and-left (ltb k (records p)) (isKind p 3 k) (each (isEncoder p) 0 ks n i l h e))
 
 -- ── live lists ──
 

@@ -7,7 +7,8 @@ use Rattle.drivers.specs.Shown.{shown}
 use Rattle.definition.specs.Faders.{writes}
 use Rattle.definition.specs.Shape.{lowChannel}
 use Rattle.rig.specs.Seen.{rigIn}
-use Rattle.hands.proofs.Laws.{each, noMove, no-write, one-write, all-writes}
+use Rattle.base.specs.KeyedLaws.{each}
+use Rattle.hands.proofs.Laws.{noMove, no-write, one-write, all-writes}
 use borrow.Author.Needs.{needs}
 use Rattle.hands.proofs.encoders.drain_line.Statement.{statement}
 use Rattle.hands.proofs.encoders.drain_line.Tie as tie

@@ -8,7 +8,8 @@ use lib.ListN.{length, getD}
 use Rattle.drivers.specs.Shown.{shown}
 use Rattle.session.specs.Session.{turnsUpTo, isEncoder}
 use Rattle.definition.specs.Faders.{nudges}
-use Rattle.hands.proofs.Laws.{each, no-nudge, one-nudge, all-nudges}
+use Rattle.base.specs.KeyedLaws.{each}
+use Rattle.hands.proofs.Laws.{no-nudge, one-nudge, all-nudges}
 use borrow.Author.Needs.{needs}
 use Rattle.hands.proofs.encoders.drain_turns.Statement.{statement}
 use Rattle.hands.proofs.encoders.drain_turns.Tie as tie

@@ -36,16 +36,9 @@ pub rest-no : (b : Bool) (c : Bool) → pick b true c ≡ false → c ≡ false
 rest-no true c e = absurd (true≢false e)
 rest-no false c e = e
 
-module _ {A : Type 0} (key : A → ℕ) where
-  abbrev below : ℕ → A → Bool
-  below n x = ltb (key x) n
-
-  abbrev pub same : A → A → Bool
-  same x y = eqb (key x) (key y)
-
-  abbrev other : ℕ → A → Bool
-  other n x = not (eqb (key x) n)
-
+-- ── what keeping leaves ──
+module _ {A : Type 0} where
+  -- where none passes, none of those that are kept does
   any-keep : (f g : A → Bool) (l : List A) → anyOf g l ≡ false → anyOf g (keep f l) ≡ false
   unfolding anyOf keep
   any-keep f g [] e = refl
@@ -55,15 +48,26 @@ module _ {A : Type 0} (key : A → ℕ) where
       go true h k = rw (h, k)
       go false h k = k
 
-  once-keep : (f : A → Bool) (l : List A) → noTwice same l ≡ true → noTwice same (keep f l) ≡ true
+  -- of a list with none twice, those that are kept have none twice
+  pub once-keep : (same : A → A → Bool) (f : A → Bool) (l : List A) → noTwice same l ≡ true → noTwice same (keep f l) ≡ true
   unfolding noTwice keep
-  once-keep f [] e = refl
-  once-keep f (x ∷ l) e =
-      go (f x) (any-keep f (same x) l (no-left (anyOf (same x) l) (noTwice same l) e)) (once-keep f l (no-right (anyOf (same x) l) (noTwice same l) e))
+  once-keep same f [] e = refl
+  once-keep same f (x ∷ l) e =
+      go (f x) (any-keep f (same x) l (no-left (anyOf (same x) l) (noTwice same l) e)) (once-keep same f l (no-right (anyOf (same x) l) (noTwice same l) e))
     where
       go : (b : Bool) → anyOf (same x) (keep f l) ≡ false → noTwice same (keep f l) ≡ true → noTwice same (pick b (x ∷ keep f l) (keep f l)) ≡ true
       go true a k = rw (a, k)
       go false a k = k
+
+module _ {A : Type 0} (key : A → ℕ) where
+  abbrev below : ℕ → A → Bool
+  below n x = ltb (key x) n
+
+  abbrev pub same : A → A → Bool
+  same x y = eqb (key x) (key y)
+
+  abbrev other : ℕ → A → Bool
+  other n x = not (eqb (key x) n)
 
   below-keep : (n : ℕ) (l : List A) → allOf (below (suc n)) l ≡ true → allOf (below n) (keep (other n) l) ≡ true
   unfolding allOf keep
@@ -101,7 +105,7 @@ module _ {A : Type 0} (key : A → ℕ) where
   pigeon zero [] e o = omega arith
   pigeon zero (x ∷ l) e o = let h : key x < 0 = ltb-true _ _ (left-of (below 0 x) (allOf (below 0) l) e) in omega arith
   pigeon (suc n) l e o =
-      omega (arith, one-less n l o, pigeon n (keep (other n) l) (below-keep n l e) (once-keep (other n) l o))
+      omega (arith, one-less n l o, pigeon n (keep (other n) l) (below-keep n l e) (once-keep same (other n) l o))
 
   -- so a list that lacks a number below n has room
   pub has-room : (n : ℕ) (l : List A) (x : A) → allOf (below n) l ≡ true → noTwice same l ≡ true → key x < n → anyOf (same x) l ≡ false → length l < n

@@ -1,7 +1,7 @@
 -- Laws of the session: no channel, target or destination waits twice, whatever is done to its list, and a line of channels below 16 has a place for
 -- every channel. A driver's list without a number twice has at most eight faders on the surface. Assumes nothing.
 use Prim.Native.Nat.{ℕ, zero, suc, _-_, _≤_, _<_}
-use mathlib.Core.Path.{_≡_, refl, sym, ap, _∙_}
+use mathlib.Core.Path.{_≡_, refl, ap, _∙_}
 use mathlib.Core.Bool.{Bool, true, false, _&&_}
 use mathlib.Core.List.{List, [], _∷_, map}
 use mathlib.Core.Option.{some}
@@ -16,7 +16,7 @@ use Rattle.base.specs.Choice.{pick}
 use Rattle.base.specs.Keyed.{anyOf, allOf, change, keep, noTwice, beside}
 use Rattle.base.specs.KeyedLaws.{each}
 use Rattle.base.specs.RangeLaws.{and-left, and-right}
-use Rattle.base.specs.Pigeon.{pigeon, has-room-for, every-change, once-change, left-of, right-of, first-no, rest-no, no-left, no-right}
+use Rattle.base.specs.Pigeon.{pigeon, has-room-for, every-change, once-change, once-keep, left-of, right-of, first-no, rest-no, no-left, no-right}
 use Rattle.profile.specs.Profile.{records, isKind}
 use Rattle.lookup.specs.Lookup.{sameDest}
 use Rattle.lookup.specs.declared.Destination.{Destination}
@@ -37,27 +37,6 @@ key-room key top l x low once h = go (anyOf (λ y. eqb (key y) (key x)) l) refl
     go : (b : Bool) → anyOf (λ y. eqb (key y) (key x)) l ≡ b → pick b true (ltb (length l) top) ≡ true
     go true e = refl
     go false e = lt-ltb (length l) top (has-room-for key top l x low once h e)
-
-module _ {A : Type 0} (same : A → A → Bool) where
-  any-keep : (f g : A → Bool) (l : List A) → anyOf g l ≡ false → anyOf g (keep f l) ≡ false
-  unfolding anyOf keep
-  any-keep f g [] e = refl
-  any-keep f g (x ∷ l) e = go (f x) (first-no (g x) (anyOf g l) e) (any-keep f g l (rest-no (g x) (anyOf g l) e))
-    where
-      go : (b : Bool) → g x ≡ false → anyOf g (keep f l) ≡ false → anyOf g (pick b (x ∷ keep f l) (keep f l)) ≡ false
-      go true h k = rw (h, k)
-      go false h k = k
-
-  -- of a list with none twice, those that are kept have none twice
-  once-keep : (f : A → Bool) (l : List A) → noTwice same l ≡ true → noTwice same (keep f l) ≡ true
-  unfolding noTwice keep
-  once-keep f [] e = refl
-  once-keep f (x ∷ l) e =
-      go (f x) (any-keep f (same x) l (no-left (anyOf (same x) l) (noTwice same l) e)) (once-keep f l (no-right (anyOf (same x) l) (noTwice same l) e))
-    where
-      go : (b : Bool) → anyOf (same x) (keep f l) ≡ false → noTwice same (keep f l) ≡ true → noTwice same (pick b (x ∷ keep f l) (keep f l)) ≡ true
-      go true a k = rw (a, k)
-      go false a k = k
 
 -- a change that leaves what is the same as what, where the new one is the same as just those that pass
 module _ {A : Type 0} (same : A → A → Bool) (is : A → Bool) (g : A → A) (y : A) (new : (x : A) → same x y ≡ is x)

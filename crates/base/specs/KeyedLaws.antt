@@ -195,6 +195,26 @@ module _ {A : Type 0} (f : A → Bool) (d : A) where
     pub keep-done : (n : ℕ) → j ≤ n → n ≤ j → take k ts ≡ keep f (take n xs)
     keep-done n h l = let q : j ≡ n = omega arith in subst (λ (m : ℕ). take k ts ≡ keep f (take m xs)) q e
 
+-- ── a change leaves a list as long, or one longer ──
+module _ {A : Type 0} (f : A → Bool) (g : A → A) (y : A) where
+  pub change-longer : (xs : List A) → length xs ≤ length (change f g y xs)
+  unfolding change
+  change-longer [] = omega arith
+  change-longer (x ∷ xs) = go (f x) (change-longer xs)
+    where
+      go : (b : Bool) → length xs ≤ length (change f g y xs) → suc (length xs) ≤ length (pick b (g x ∷ xs) (x ∷ change f g y xs))
+      go true k = omega arith
+      go false k = omega arith
+
+  pub change-long : (xs : List A) → length (change f g y xs) ≤ suc (length xs)
+  unfolding change
+  change-long [] = omega arith
+  change-long (x ∷ xs) = go (f x) (change-long xs)
+    where
+      go : (b : Bool) → length (change f g y xs) ≤ suc (length xs) → length (pick b (g x ∷ xs) (x ∷ change f g y xs)) ≤ suc (suc (length xs))
+      go true k = omega arith
+      go false k = omega arith
+
 -- ── going through a list, counting up ──
 module _ {A : Type 0} (d : A) (xs : List A) (n i : ℕ) (l : n ≤ length xs) where
   pub seen-next : i < n → drop i (take n xs) ≡ getD xs i d ∷ drop (i + 1) (take n xs)

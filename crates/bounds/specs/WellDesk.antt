@@ -12,6 +12,7 @@ use lib.Ieee.{Float}
 use borrow.Author.Tests.{leb-false, eq-eqb}
 use Rattle.base.specs.Choice.{pick}
 use Rattle.base.specs.Keyed.{find, change, allOf, noTwice}
+use Rattle.base.specs.KeyedLaws.{change-long}
 use Rattle.base.specs.Pigeon.{left-of, right-of}
 use Rattle.base.specs.declared.Place.{Place}
 use Rattle.base.specs.declared.Place.the-variants as place
@@ -44,15 +45,6 @@ pub record WellTurns (p : List ℕ) (l : List Turn) : Type 0 where
 
 -- a list in which one is changed, or that has one more
 module _ {A : Type 0} (f : A → Bool) (g : A → A) (y : A) where
-  change-most : (l : List A) → length (change f g y l) ≤ length l + 1
-  unfolding change
-  change-most [] = omega arith
-  change-most (x ∷ l) = go (f x) (change-most l)
-    where
-      go : (b : Bool) → length (change f g y l) ≤ length l + 1 → length (pick b (g x ∷ l) (x ∷ change f g y l)) ≤ suc (length l) + 1
-      go true k = omega arith
-      go false k = omega (arith, k)
-
   change-found : (l : List A) (z : A) → find f l ≡ some z → length (change f g y l) ≤ length l
   unfolding change find
   change-found [] z e = absurd (let q : _≡_ {A = ℕ} 0 1 = cc in omega arith)
@@ -96,7 +88,7 @@ module _ (p : List ℕ) (e : Destination) (n : ℤ) (l : List Turn) (h : WellTur
     where
       go : (b : Bool) → leb 136 (length l) ≡ b → pick {A = ℕ} b 13 0 ≡ 0 → length (change (isDest e) (addTo n) (firstTurn e n) l) ≤ 136
       go true i j = absurd (omega arith)
-      go false i j = omega (arith, leb-false 136 (length l) i, change-most (isDest e) (addTo n) (firstTurn e n) l)
+      go false i j = omega (arith, leb-false 136 (length l) i, change-long (isDest e) (addTo n) (firstTurn e n) l)
 
   in-range : (b : Bool) → pick {A = ℕ} b 0 12 ≡ 0 → b ≡ true
   in-range true q = refl

@@ -2,7 +2,7 @@
 use Prim.Native.Nat.{ℕ, zero, suc, _+_, _*_, _%_, _≤_, _<_}
 use mathlib.Core.Path.{_≡_, refl, sym, ap, _∙_}
 use mathlib.Core.Bool.{Bool, true, false, _&&_, _||_, false≢true}
-use mathlib.Core.List.{List, [], _∷_}
+use mathlib.Core.List.{List, []}
 use native.Mathlib.Omega.{arith}
 use lib.Dec.{eqb, ltb}
 use lib.ListN.{length, take}
@@ -11,6 +11,7 @@ use lib.Ieee.{Float}
 use borrow.Author.Tests.{ltb-true, ltb-false}
 use Rattle.base.specs.Choice.{pick}
 use Rattle.base.specs.Keyed.{change}
+use Rattle.base.specs.KeyedLaws.{change-long}
 use Rattle.base.specs.BesideLaws.{beside-length}
 use Rattle.protocol.specs.Protocol.{kindOf, channelOf}
 use Rattle.protocol.specs.declared.Button.{Button}
@@ -63,22 +64,13 @@ use Rattle.bridge.proofs.StepLaws.{stepOf, room-for, undone-delivers, d
 
 -- ── a press adds at most sixteen ──
 
-change-long : (f : ℕ → Bool) (y : ℕ) (l : List ℕ) → length (change f (λ x. x) y l) ≤ suc (length l)
-unfolding change
-change-long f y [] = omega arith
-change-long f y (x ∷ l) = at (f x) (change-long f y l)
-  where
-    at : (b : Bool) → length (change f (λ z. z) y l) ≤ suc (length l) → length (pick b (x ∷ l) (x ∷ change f (λ z. z) y l)) ≤ suc (suc (length l))
-    at true h = omega arith
-    at false h = omega arith
-
 adding-long : (f : Found) (ts l : List ℕ) → length (adding f ts l) ≤ suc (length l)
 adding-long found.Nothing ts l = omega arith
 adding-long (found.To d) ts l = at (hasMute d) (isHushed (keptBy d) ts)
   where
     hushed-at : (h : Bool) → length (pick h l (change (isSame (keptBy d)) (λ x. x) (keptBy d) l)) ≤ suc (length l)
     hushed-at true = omega arith
-    hushed-at false = change-long (isSame (keptBy d)) (keptBy d) l
+    hushed-at false = change-long (isSame (keptBy d)) (λ x. x) (keptBy d) l
 
     at : (b h : Bool) → length (addTarget b (keptBy d) ts l) ≤ suc (length l)
     at true h = omega arith

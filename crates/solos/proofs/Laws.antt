@@ -2,7 +2,7 @@
 use Prim.Native.Nat.{ℕ, zero, suc, _+_, _-_, _≤_, _<_}
 use mathlib.Core.Path.{_≡_, refl, sym, subst, ap, _∙_}
 use mathlib.Core.Bool.{Bool, true, false, not}
-use mathlib.Core.List.{List, [], _∷_, _++_}
+use mathlib.Core.List.{List, [], _++_}
 use native.Mathlib.Numerals.{add-one}
 use native.Mathlib.Omega.{arith}
 use lib.Dec.{eqb, leb}
@@ -12,6 +12,7 @@ use lib.Seq.{getD-set-same, getD-set-other}
 use borrow.Author.Tests.{not-false, leb-true, leb-false}
 use Rattle.base.specs.Choice.{pick}
 use Rattle.base.specs.Keyed.{change, noTwice}
+use Rattle.base.specs.KeyedLaws.{change-longer}
 use Rattle.lookup.specs.declared.Destination.{Destination}
 use Rattle.lookup.specs.declared.Found.{Found}
 use Rattle.lookup.specs.declared.Found.the-variants as found
@@ -125,23 +126,13 @@ module _ (of : ℕ → Found) (fader : ℕ) (s : List Hushed) (t : Talk) where
 
 -- ── room for each peer ──
 
-module _ {A : Type 0} where
-  change-longer : (f : A → Bool) (y : A) (l : List A) → length l ≤ length (change f (λ x. x) y l)
-  unfolding change
-  change-longer f y [] = omega arith
-  change-longer f y (x ∷ l) = go (f x) (change-longer f y l)
-    where
-      go : (b : Bool) → length l ≤ length (change f (λ z. z) y l) → suc (length l) ≤ length (pick b (x ∷ l) (x ∷ change f (λ z. z) y l))
-      go true h = omega arith
-      go false h = omega arith
-
 adding-longer : (f : Found) (ts l : List ℕ) → length l ≤ length (adding f ts l)
 adding-longer found.Nothing ts l = omega arith
 adding-longer (found.To d) ts l = go (hasMute d)
   where
     at : (h : Bool) → length l ≤ length (pick h l (change (isSame (keptBy d)) (λ z. z) (keptBy d) l))
     at true = omega arith
-    at false = change-longer (isSame (keptBy d)) (keptBy d) l
+    at false = change-longer (isSame (keptBy d)) (λ z. z) (keptBy d) l
 
     go : (b : Bool) → length l ≤ length (addTarget b (keptBy d) ts l)
     go true = omega arith

@@ -18,6 +18,12 @@ use Rattle.base.specs.Keyed.{at, find, anyOf, allOf, change, keep, noTwi
 pub long : (X Y : Type 0) (f : X → Y) (l : List X) (n : ℕ) → length (map f l) ≡ n → length l ≡ n
 long X Y f l n e = sym (length-map l f) ∙ e
 
+-- an element that is there, whatever stands for none
+pub other-none : {A : Type 0} (xs : List A) (i : ℕ) (d e : A) → i < length xs → getD xs i d ≡ getD xs i e
+other-none [] i d e h = absurd (omega arith)
+other-none (x ∷ xs) zero d e h = refl
+other-none (x ∷ xs) (suc i) d e h = other-none xs i d e (omega arith)
+
 module _ {A : Type 0} (f : A → Bool) (d : A) where
   -- ── a search that counts up: none of the first i passes ──
   pub at-none : (xs : List A) → at f (take 0 xs) ≡ 0

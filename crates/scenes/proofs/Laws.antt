@@ -1,8 +1,8 @@
 -- The scenes of the current device and paging through them, from what the calls promise. Assumes nothing.
-use Prim.Native.Nat.{ℕ, zero, suc, _+_, _-_, _≤_, _<_}
+use Prim.Native.Nat.{ℕ, _+_, _-_, _≤_, _<_}
 use mathlib.Core.Path.{_≡_, refl, sym, ap, _∙_}
 use mathlib.Core.Bool.{Bool, true, false, _||_, not}
-use mathlib.Core.List.{List, [], _∷_}
+use mathlib.Core.List.{List, []}
 use mathlib.Core.Logic.{_⊎_, inl, inr}
 use native.Mathlib.Omega.{arith}
 use lib.Dec.{eqb, leb, ltb}
@@ -14,6 +14,7 @@ use Rattle.base.specs.Choice.{pick}
 use Rattle.base.specs.First.{first}
 use Rattle.base.specs.RangeLaws.{or-left-no, or-right-no}
 use Rattle.base.specs.FirstLaws.{first-at, first-more, first-hit, first-done}
+use Rattle.base.specs.KeyedLaws.{other-none}
 use Rattle.base.specs.declared.Place.{Place}
 use Rattle.base.specs.declared.Place.the-variants as place
 use Rattle.profile.specs.Profile.{countOf, verdict}
@@ -41,12 +42,6 @@ use Rattle.scenes.specs.Pages.{ShowsLoaded, PagesTo, StepsScene, LoadsSc
 use Rattle.scenes.specs.declared.names.Offer.{Offer}
 
 -- ── the names that a device reported, the first n of an array ──
-
--- an element that is there, whatever stands for none
-other-none : (xs : List ℕ) (i d e : ℕ) → i < length xs → getD xs i d ≡ getD xs i e
-other-none [] i d e h = absurd (omega arith)
-other-none (x ∷ xs) zero d e h = refl
-other-none (x ∷ xs) (suc i) d e h = other-none xs i d e (omega arith)
 
 module _ (s : Names) (few : s .count ≤ 128) (long : length (s .list) ≡ 128) where
   pub names-length : length (seenNames s) ≡ s .count

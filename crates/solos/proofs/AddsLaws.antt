@@ -10,6 +10,7 @@ use lib.ListN.{length, getD, take, set}
 use lib.Seq.{take-suc-set}
 use Rattle.base.specs.Choice.{pick}
 use Rattle.base.specs.Keyed.{anyOf, change}
+use Rattle.base.specs.KeyedLaws.{other-none}
 use Rattle.lookup.specs.declared.Destination.{Destination}
 use Rattle.lookup.specs.declared.Found.{Found}
 use Rattle.lookup.specs.declared.Found.the-variants as found
@@ -85,16 +86,10 @@ module _ (itself there : Bool) (d : Destination) (ts l : List ℕ) where
 
 -- ── the peers of a fader ──
 
--- within the table, what stands past its end does not matter
-within : {A : Type 0} (xs : List A) (n : ℕ) (d e : A) → n < length xs → getD xs n d ≡ getD xs n e
-within [] n d e h = absurd (omega arith)
-within (x ∷ xs) zero d e h = refl
-within (x ∷ xs) (suc n) d e h = within xs n d e (omega arith)
-
 pub peer-at : (p : Peers) (n : ℕ) (d : Peer) → n < length (p .list) → foundOf (getD (p .list) n d) ≡ seenPeers p (n + 1)
 peer-at p n d h =
     let q : n + 1 - 1 ≡ n = omega arith in
-    rw (q, within (p .list) n d nobody h)
+    rw (q, other-none (p .list) n d nobody h)
 
 pub none-soloed : (of : ℕ → Found) (fader : ℕ) (ts : List ℕ) → [] ≡ soloAdds of fader ts 0
 unfolding soloAdds

@@ -1,7 +1,7 @@
 -- A list of numbers below n, none twice, has at most n: what makes room in the line. Stated once, for every key and every n.
 use mathlib.Core.Path.{_≡_, refl, sym, ap, _∙_, subst}
 use mathlib.Core.Bool.{Bool, true, false, not, true≢false, false≢true}
-use mathlib.Core.List.{List, [], _∷_}
+use mathlib.Core.List.{List, [], _∷_, _++_}
 use Prim.Native.Nat.{ℕ, zero, suc, _+_, _≤_, _<_}
 use native.Mathlib.Omega.{arith}
 use lib.ListN.{length}
@@ -35,6 +35,12 @@ first-no false c e = refl
 pub rest-no : (b : Bool) (c : Bool) → pick b true c ≡ false → c ≡ false
 rest-no true c e = absurd (true≢false e)
 rest-no false c e = e
+
+-- two lists whose elements pass, one behind the other
+pub all-append : {A : Type 0} (f : A → Bool) (xs ys : List A) → allOf f xs ≡ true → allOf f ys ≡ true → allOf f (xs ++ ys) ≡ true
+unfolding allOf
+all-append f [] ys a b = b
+all-append f (x ∷ xs) ys a b = rw (left-of (f x) (allOf f xs) a) (all-append f xs ys (right-of (f x) (allOf f xs) a) b)
 
 -- ── what keeping leaves ──
 module _ {A : Type 0} where

@@ -13,7 +13,7 @@ use Rattle.base.specs.Range.{all, every}
 use Rattle.base.specs.RangeLaws.{and-left, and-right, all-none}
 use Rattle.base.specs.Words.{le16}
 use Rattle.base.specs.Keyed.{anyOf, allOf, keep, noTwice}
-use Rattle.base.specs.Pigeon.{left-of, right-of, first-no, rest-no, no-left, no-right}
+use Rattle.base.specs.Pigeon.{left-of, right-of, all-append, first-no, rest-no, no-left, no-right}
 use Rattle.drivers.specs.Answers.{countAt, itemAt, itemsOf, itemFits, liveFits, listIf, liveList, toLive, answerTo, answerOf, itemCount, isUnfit, isList}
 use Rattle.drivers.specs.Talk.{Stop, going, waits, declined, overrun, Talk, next, Reply, askFit, askLeft, askRoom, askAt, ask, askIf as askWhen, openFor, useCall, plainCall, liveOf}
 use Rattle.drivers.specs.declared.Answer.{Answer}
@@ -36,11 +36,6 @@ abbrev below : ℕ → LiveFader → Bool
 below m f = ltb (f .number) m
 
 module _ {A : Type 0} where
-  all-append : (f : A → Bool) (l m : List A) → allOf f l ≡ true → allOf f m ≡ true → allOf f (l ++ m) ≡ true
-  unfolding allOf
-  all-append f [] m h k = k
-  all-append f (x ∷ l) m h k = rw (left-of (f x) (allOf f l) h) (all-append f l m (right-of (f x) (allOf f l) h) k)
-
   any-append : (f : A → Bool) (l : List A) (x : A) → anyOf f l ≡ false → f x ≡ false → anyOf f (l ++ (x ∷ [])) ≡ false
   unfolding anyOf
   any-append f [] x h k = rw k

@@ -1,18 +1,19 @@
 -- What is known of what an accepted profile's lookups find. Assumes nothing.
 use Prim.Native.Nat.{ℕ, zero, suc, _+_, _*_, _≤_, _<_}
 use mathlib.Core.Path.{_≡_, refl, sym, ap, _∙_}
-use mathlib.Core.List.{List, [], _∷_, _++_}
+use mathlib.Core.List.{List, [], _∷_}
 use mathlib.Core.Bool.{Bool, true, false}
 use mathlib.Core.Logic.{_⊎_, inr}
 use native.Mathlib.Omega.{arith}
 use lib.Dec.{leb}
 use lib.Ieee.Scale.{finite}
-use lib.ListN.{length, getD}
+use lib.ListN.{getD}
 use borrow.Author.Tests.{le-leb, eqb-true, eq-eqb}
 use Rattle.base.specs.Choice.{pick}
 use Rattle.base.specs.Range.{every}
 use Rattle.base.specs.RangeLaws.{and-left}
 use Rattle.base.specs.Keyed.{find, allOf, change}
+use Rattle.base.specs.Pigeon.{all-append}
 use Rattle.base.specs.declared.Place.{Place}
 use Rattle.base.specs.declared.Place.the-variants.{At, Nothing}
 use Rattle.profile.specs.Profile.{records, byteAt, halfAt, bankCount, control, verdict}
@@ -106,15 +107,6 @@ abbrev pub lowDriver : Entry → Bool
 lowDriver e = leb (e .command .driver) 15
 
 module _ {A : Type 0} (f : A → Bool) where
-  all-append : (xs ys : List A) → allOf f xs ≡ true → allOf f ys ≡ true → allOf f (xs ++ ys) ≡ true
-  unfolding allOf
-  all-append [] ys a b = b
-  all-append (x ∷ xs) ys a b = go (f x) a (λ q. all-append xs ys q b)
-    where
-      go : (t : Bool) → pick t (allOf f xs) false ≡ true → (allOf f xs ≡ true → allOf f (xs ++ ys) ≡ true) → pick t (allOf f (xs ++ ys)) false ≡ true
-      go true q ih = ih q
-      go false q ih = q
-
   all-change : (g : A → Bool) (y : A) (xs : List A) → f y ≡ true → allOf f xs ≡ true → allOf f (change g (λ x. y) y xs) ≡ true
   unfolding allOf change
   all-change g y [] h a = rw h
@@ -125,17 +117,6 @@ module _ {A : Type 0} (f : A → Bool) where
       go true true e q ih = rw h q
       go false true e q ih = rw e (ih q)
       go t false e q ih = let z : _≡_ {A = Bool} true false = sym q in cc
-
-  pub all-of-at : (d : A) (l : List A) (i : ℕ) → allOf f l ≡ true → i < length l → f (getD l i d) ≡ true
-  unfolding allOf
-  all-of-at d [] i a h = absurd (omega arith)
-  all-of-at d (x ∷ xs) i a h = go (f x) refl i a h (all-of-at d xs)
-    where
-      go : (t : Bool) → f x ≡ t → (j : ℕ) → pick t (allOf f xs) false ≡ true → j < suc (length xs) →
-          ((k : ℕ) → allOf f xs ≡ true → k < length xs → f (getD xs k d) ≡ true) → f (getD (x ∷ xs) j d) ≡ true
-      go true e zero q l ih = e
-      go true e (suc j) q l ih = ih j q (omega arith)
-      go false e j q l ih = let z : _≡_ {A = Bool} true false = sym q in cc
 
 module _ (s : List ℕ) (ok : verdict s ≡ 0) where
   low-gathered : (part n : ℕ) → n ≤ records s → allOf lowDriver (gather n (ofPart s 5 part) (entryAt s)) ≡ true

@@ -9,17 +9,12 @@ use lib.ListN.{length, getD, length-append, List·getD-append}
 use borrow.Author.Tests.{ltb-true, lt-ltb, le-ltb}
 use Rattle.base.specs.Choice.{pick}
 use Rattle.base.specs.Range.{all}
+use Rattle.base.specs.RangeLaws.{all-cong}
 use Rattle.base.specs.Words.{le16, le32, le64}
 use Rattle.drivers.specs.Answers.{countAt, itemAt, itemsOf, itemFits, liveFits, listIf, sceneList, liveList, toRead, toPlaying, toScenes, toCurrent, toLive, answerTo, answerOf, itemCount, isUnfit}
 use Rattle.drivers.specs.declared.Answer.{Answer}
 use Rattle.drivers.specs.declared.Answer.the-variants as answer
 use Rattle.bounds.specs.Used.{long}
-
--- the same of every number below n
-all-same : (n : ℕ) (p q : ℕ → Bool) → ((i : ℕ) → i < n → p i ≡ q i) → all n p ≡ all n q
-unfolding all
-all-same zero p q h = refl
-all-same (suc n) p q h = let a = all-same n p q (λ i l. h i (omega arith)) in let b = h n (omega arith) in cc
 
 -- the answer y, if it fits, is x
 record Same (x y : Answer) : Type 0 where
@@ -93,7 +88,7 @@ module _ (part more : List ℕ) where
             let n = countAt part in
             let l : n < length part / 16 = ltb-true n (length part / 16) e in
             let k : ltb n (length (part ++ more) / 16) ≡ true = lt-ltb n (length (part ++ more) / 16) (omega (arith, length-append part more)) in
-            let a : all n (fits (part ++ more)) ≡ all n (fits part) = all-same n (fits (part ++ more)) (fits part) (λ i lt. h i (omega arith)) in
+            let a : all n (fits (part ++ more)) ≡ all n (fits part) = all-cong (fits (part ++ more)) (fits part) n (λ i lt. h i (omega arith)) in
             let c : countAt (part ++ more) ≡ n = count-same in
             rw (c, k, a, e)
         go false e u = absurd (there (ltb most (countAt part)) (pick (all (countAt part) (fits part)) answer.List answer.Unfit) (rw e at u))

@@ -15,6 +15,7 @@ use borrow.Rule.Slice.PartMut.{putMid}
 use Rattle.base.specs.Choice.{pick}
 use Rattle.base.specs.Range.{all}
 use Rattle.base.specs.Words.{le16, le32, le64, bytes16, bytes32, bytes64, put16, put32, put64}
+use Rattle.base.specs.WordsLaws.{halves16, halves32, halves64}
 use Rattle.base.specs.Tail.{over, atFront, tail-over}
 use Rattle.protocol.specs.Protocol.{bytesOf}
 use Rattle.protocol.specs.declared.Out.{Out}
@@ -71,25 +72,16 @@ module _ (s t : List ℕ) (a b n : ℕ) (h : (k : ℕ) → k < n → getD s (a +
       ∙ ap (λ (x : ℕ). le32 t (b + j) + 4294967296 * x) (agree32-at j 4 (omega arith))
 
 -- the bytes of a number are read back
-pub whole16 : (n : ℕ) → n % 256 + 256 * (n / 256) ≡ n
-whole16 n = omega arith
-
-whole-2 : (n : ℕ) → n % 65536 + 65536 * (n / 65536) ≡ n
-whole-2 n = omega arith
-
-whole-4 : (n : ℕ) → n % 4294967296 + 4294967296 * (n / 4294967296) ≡ n
-whole-4 n = omega arith
-
 pub whole32 : (n : ℕ) → le32 (bytes32 n) 0 ≡ n
 whole32 n =
-    ap (λ (x : ℕ). x + 65536 * le16 (bytes16 (n / 65536)) 0) (whole16 (n % 65536)) ∙ ap (λ (x : ℕ). n % 65536 + 65536 * x) (whole16 (n / 65536)) ∙ whole-2 n
+    ap (λ (x : ℕ). x + 65536 * le16 (bytes16 (n / 65536)) 0) (halves16 (n % 65536)) ∙ ap (λ (x : ℕ). n % 65536 + 65536 * x) (halves16 (n / 65536)) ∙ halves32 n
 
 pub whole64 : (n : ℕ) → le64 (bytes64 n) 0 ≡ n
 unfolding le64
 whole64 n =
     ap (λ (x : ℕ). x + 4294967296 * le32 (bytes32 (n / 4294967296)) 0) (whole32 (n % 4294967296))
     ∙ ap (λ (x : ℕ). n % 4294967296 + 4294967296 * x) (whole32 (n / 4294967296))
-    ∙ whole-4 n
+    ∙ halves64 n
 
 -- a number in the part of a list from place n on
 pub drop16 : (n : ℕ) (s : List ℕ) (j : ℕ) → le16 (drop n s) j ≡ le16 s (n + j)
@@ -109,7 +101,7 @@ call-same s t a b h =
 
 call-whole : (c : Call) → callAt (callBytes c) 0 ≡ c
 unfolding le64
-call-whole c = same-fields refl refl (whole16 (c .name)) (whole32 (c .argument)) (whole64 (c .level))
+call-whole c = same-fields refl refl (halves16 (c .name)) (whole32 (c .argument)) (whole64 (c .level))
 
 call-there : (cs : List ℕ) (i : ℕ) (c : Call) → i + 16 ≤ length cs → callAt (over cs i (callBytes c)) i ≡ c
 call-there cs i c h =

@@ -1,10 +1,10 @@
 -- The part of a buffer from a place on, lent to a writer and given back. Assumes nothing.
-use mathlib.Core.Path.{_≡_}
+use mathlib.Core.Path.{_≡_, sym}
 use mathlib.Core.List.{List, _++_, append-nil}
 use Prim.Native.Nat.{ℕ, _+_, _-_, _≤_}
 use native.Mathlib.Omega.{arith}
-use lib.ListN.{length, take, drop, length-drop, drop-of-length-le}
-use lib.Seq.{take-all, drop-drop}
+use lib.ListN.{length, take, drop, length-append, length-drop, drop-of-length-le}
+use lib.Seq.{take-all, drop-drop, length-take-le}
 use borrow.Rule.Slice.PartMut.{putMid}
 
 -- xs with bs written over it from place a on: what stands before and behind is as it was
@@ -21,3 +21,8 @@ unfolding over atFront
 tail-over xs bs a h =
     let e : length (drop a xs) ≤ length xs - a = simp length-drop (omega arith) in
     simp (take-all _ (drop a xs) e, drop-of-length-le (drop a xs) e, append-nil, drop-drop)
+
+-- what counts bytes at the start of a list counts them where more stand behind
+pub counts-front : (n : ℕ) (xs ys : List ℕ) → n ≤ length xs → (n ≤ length (xs ++ ys)) × (n ≡ length (take n (xs ++ ys)))
+counts-front n xs ys h =
+    let l : n ≤ length (xs ++ ys) = simp length-append (omega arith) in (l, sym (length-take-le n (xs ++ ys) l))

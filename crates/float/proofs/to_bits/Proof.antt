@@ -1,17 +1,12 @@
 use mathlib.Core.Path.{_≡_, ap, sym, subst}
-use mathlib.Core.Bool.{true, false, not, true≢false}
+use mathlib.Core.Bool.{true}
 use lib.Dec.{T}
-use lib.Ieee.{Float, nan, inf, fin, binary64, ne, toBits, isNan}
+use lib.Ieee.{Float, binary64, ne, toBits}
 use lib.Ieee.Compare.{differs-from-itself}
 use borrow.Author.Needs.{needs}
+use Rattle.float.proofs.Bits.{no-nan}
 use Rattle.float.proofs.to_bits.Statement.{statement}
 use Rattle.float.proofs.to_bits.Tie as tie
-
-no-nan : (x : Float) → ne x x ≡ false → T (not (isNan x))
-unfolding ne isNan
-no-nan nan h = absurd (true≢false h)
-no-nan (inf s) h = tt
-no-nan (fin s m e) h = tt
 
 by-nan : (x : Float) → ne x x ≡ true → 0x7ff8_0000_0000_0000 ≡ toBits binary64 x
 unfolding toBits

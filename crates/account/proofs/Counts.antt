@@ -1,7 +1,7 @@
 -- The account by itself: no move is lost or booked twice, and no turn. Nothing of the bridge is in here.
 use Prim.Native.Nat.{ℕ, suc, _+_, _*_, _≤_, _<_}
 use mathlib.Core.Path.{_≡_, refl, sym, ap, _∙_}
-use mathlib.Core.Bool.{Bool, true, false, not, _&&_, Bool·beq, false≢true}
+use mathlib.Core.Bool.{Bool, true, false, not, _&&_, Bool·beq}
 use mathlib.Core.List.{List, [], _∷_, _++_, map, append-nil, append-assoc}
 use mathlib.Core.Option.{Option, none, some}
 use native.Mathlib.Omega.{arith}
@@ -11,6 +11,7 @@ use lib.Ieee.{eq}
 use borrow.Author.Tests.{eqb-true, eqb-false, ne-eqb}
 use Rattle.base.specs.Choice.{pick}
 use Rattle.base.specs.Range.{every}
+use Rattle.base.specs.RangeLaws.{and-left, and-right}
 use Rattle.protocol.specs.declared.Event.the-variants as event
 use Rattle.lookup.specs.Lookup.{sameDest}
 use Rattle.lookup.specs.View.{View}
@@ -25,7 +26,7 @@ use Rattle.definition.specs.Rig.{Rig, destination, encoderDest}
 use Rattle.definition.specs.Faders.{isHeld}
 use Rattle.definition.specs.Step.{Site}
 use Rattle.account.specs.Account.{Past, Account, Waits, Tried, Drain, reading, rigIn, lined, replacedBy, bookIf, bookMove, summed, bookTurn, bookPress, pressMoves, bookLive, bookDrain, bookEvent, drainOf, sameLive, liveAt, triedOf, tryAt, droppedOf, dropAt, ids, triedIds, tried, handed, bump, count, moves, moveAt, moveIn, ifFound, ifSame, sumFor, turnIn, turnTo}
-use Rattle.account.proofs.FloatEq.{eq-cong}
+use Rattle.account.proofs.FloatEq.{beq-true, eq-cong}
 
 -- ── counting ──
 
@@ -198,20 +199,6 @@ moves-once v n i (x ∷ xs) = go (eqb i n) refl (moves-once v (suc n) i xs)
         omega (arith, count-append i (moveAt v n x) (moves v (suc n) xs), other-none v n i (eqb-false i n e) x)
 
 -- ── turns ──
-
-and-left : (a b : Bool) → a && b ≡ true → a ≡ true
-and-left true b e = refl
-and-left false b e = e
-
-and-right : (a b : Bool) → a && b ≡ true → b ≡ true
-and-right true b e = e
-and-right false b e = absurd (false≢true e)
-
-beq-true : (a b : Bool) → Bool·beq a b ≡ true → a ≡ b
-beq-true true true e = refl
-beq-true true false e = absurd (false≢true e)
-beq-true false true e = absurd (false≢true e)
-beq-true false false e = refl
 
 -- all that the sums need of the test: destinations that are the same are the same as the same ones
 pub same-cong : (a b d : Destination) → sameDest a b ≡ true → sameDest a d ≡ sameDest b d

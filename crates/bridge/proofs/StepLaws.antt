@@ -19,6 +19,7 @@ use Rattle.lookup.specs.View.{View, viewOf}
 use Rattle.drivers.specs.Talk.{Stop, going, waits, declined, overrun, Talk, Got, got, start, next}
 use Rattle.drivers.specs.Shown.{shown, stopIn}
 use Rattle.drivers.specs.Bytes.{joined, encode}
+use Rattle.drivers.specs.BytesLaws.{calls-length, messages-length}
 use Rattle.drivers.specs.declared.Io.{Io}
 use Rattle.drivers.specs.declared.Call.{Call}
 use Rattle.session.specs.Session.{Turn, targetsOf}
@@ -43,7 +44,6 @@ use Rattle.bounds.specs.WellRoom.{well-few}
 use Rattle.bounds.specs.WellStep.{step-well}
 use Rattle.after.specs.After.{keptWith, Places}
 use Rattle.delivery.specs.Delivery.{outcomeOf, isDone, messagesAfter, callsAfter, endIf, endOf, HasRoom}
-use Rattle.delivery.specs.DeliveryLaws.{calls-length, messages-length}
 use Rattle.delivery.specs.declared.Outcome.{Outcome}
 use Rattle.delivery.specs.declared.Outcome.the-variants as outcome
 use Rattle.bridge.specs.declared.Stepped as declared

@@ -8,11 +8,11 @@ use lib.ListN.{length, take, drop, length-take}
 use lib.Seq.{take-all}
 use Rattle.drivers.specs.Talk.{Talk}
 use Rattle.drivers.specs.Bytes.{joined, encode}
+use Rattle.drivers.specs.BytesLaws.{calls-length, messages-length}
 use Rattle.drivers.specs.Shown.{callsIn, messagesIn, stopIn, shown}
 use Rattle.drivers.specs.declared.Call.{Call}
 use Rattle.drivers.specs.declared.Io.{Io}
 use Rattle.delivery.specs.Delivery.{outcomeOf, isDone, onTop, messagesAfter, callsAfter, endIf, undoneBy, Ends}
-use Rattle.delivery.specs.DeliveryLaws.{calls-length, messages-length}
 use Rattle.delivery.specs.declared.Outcome.{Outcome}
 use Rattle.delivery.specs.declared.Outcome.the-variants as outcome
 

@@ -23,6 +23,7 @@ use Rattle.protocol.specs.declared.Out.the-variants.{Led, Position}
 use Rattle.drivers.specs.Answers.{countAt, itemAt, itemsOf, itemFits, liveFits, listIf, sceneList, liveList, yesNo, toRead, toPlaying, toScenes, toCurrent, toLive, toOther, answerTo, answerOf, isUnfit, isList, itemCount}
 use Rattle.drivers.specs.Talk.{going, Got, got, Reply, nameOf, plainCall, ask, askRoom, askLeft, askFit, isOpen, opening, send, sendRoom}
 use Rattle.drivers.specs.Shown.{callBytes, callAt, callsIn, messageAt, messagesIn, stopIn, shown, haltOf, notedOf, openedIn, sentOne, roomless, replyIn, Listing}
+use Rattle.drivers.specs.BytesLaws.{calls-length, messages-length}
 use Rattle.drivers.specs.declared.Call.{Call}
 use Rattle.drivers.specs.declared.Io.{Io}
 use Rattle.drivers.specs.declared.LiveFader.{LiveFader}
@@ -116,11 +117,6 @@ calls-before cs (suc n) m c h l =
       call-same (over cs (16 * m) (callBytes c)) cs (16 * n) (16 * n) (λ k q. over-before cs (callBytes c) (16 * m) h (16 * n + k) (omega arith)),
     )
 
-calls-length : (n : ℕ) (cs : List ℕ) → length (callsIn n cs) ≡ n
-unfolding callsIn
-calls-length zero cs = refl
-calls-length (suc n) cs = omega (arith, length-append (callsIn n cs) (callAt cs (16 * n) ∷ []), calls-length n cs)
-
 -- a call that is written behind n others is one call more
 pub calls-more : (cs : List ℕ) (n : ℕ) (c : Call) → 16 * n + 16 ≤ length cs → callsIn (n + 1) (over cs (16 * n) (callBytes c)) ≡ callsIn n cs ++ (c ∷ [])
 unfolding callsIn
@@ -163,11 +159,6 @@ module _ (bs : List ℕ) (m : ℕ) (o : Out) (h : 3 * m + 3 ≤ length bs) where
   pub messages-more : messagesIn (m + 1) (over bs (3 * m) (bytesOf o)) ≡ messagesIn m bs ++ (bytesOf o ∷ [])
   unfolding messagesIn
   messages-more = rw (add-one, messages-before m (omega arith), message-there)
-
-messages-length : (n : ℕ) (bs : List ℕ) → length (messagesIn n bs) ≡ n
-unfolding messagesIn
-messages-length zero bs = refl
-messages-length (suc n) bs = omega (arith, length-append (messagesIn n bs) (messageAt bs (3 * n) ∷ []), messages-length n bs)
 
 -- ── answers ──
 

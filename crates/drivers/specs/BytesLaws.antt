@@ -1,10 +1,10 @@
--- The bytes that stand in the buffers are those of the calls and messages that are read from them. Assumes nothing.
+-- The bytes that stand in the buffers are those of the calls and messages that are read from them, and how many these are. Assumes nothing.
 use Prim.Native.Nat.{ℕ, zero, suc, _+_, _*_, _/_, _%_, _≤_, _<_}
 use native.Mathlib.Omega.{arith}
 use native.Mathlib.Numerals.{add-one}
 use mathlib.Core.Path.{_≡_, refl, sym, ap, _∙_}
 use mathlib.Core.List.{List, [], _∷_, _++_, map, map-append, append-nil, append-assoc}
-use lib.ListN.{length, getD, take, drop}
+use lib.ListN.{length, getD, take, drop, length-append}
 use lib.Seq.{drop-cons, drop-drop, take-add}
 use Rattle.base.specs.Words.{le16, le32, le64, bytes16, bytes32, bytes64}
 use Rattle.drivers.specs.Shown.{callBytes, callAt, callsIn, messageAt, messagesIn}
@@ -112,3 +112,15 @@ bytes-messages bs (suc n) l =
     let e : 3 * suc n ≡ 3 * n + 3 = omega arith in
     rw (e, joined-more (messagesIn n bs) (messageAt bs (3 * n)), bytes-messages bs n (omega arith), take-three bs (3 * n) (omega arith))
     (sym (take-add (3 * n) 3 bs))
+
+-- ── how many calls and messages are read from a buffer ──
+
+pub calls-length : (n : ℕ) (cs : List ℕ) → length (callsIn n cs) ≡ n
+unfolding callsIn
+calls-length zero cs = refl
+calls-length (suc n) cs = omega (arith, length-append (callsIn n cs) (callAt cs (16 * n) ∷ []), calls-length n cs)
+
+pub messages-length : (n : ℕ) (bs : List ℕ) → length (messagesIn n bs) ≡ n
+unfolding messagesIn
+messages-length zero bs = refl
+messages-length (suc n) bs = omega (arith, length-append (messagesIn n bs) (messageAt bs (3 * n) ∷ []), messages-length n bs)

@@ -12,9 +12,9 @@ use Rattle.base.specs.Range.{all}
 use Rattle.base.specs.RangeLaws.{all-cong}
 use Rattle.base.specs.Words.{le16, le32, le64}
 use Rattle.drivers.specs.Answers.{countAt, itemAt, itemsOf, itemFits, liveFits, listIf, sceneList, liveList, toRead, toPlaying, toScenes, toCurrent, toLive, answerTo, answerOf, itemCount, isUnfit}
+use Rattle.drivers.specs.AnswersLaws.{part-long}
 use Rattle.drivers.specs.declared.Answer.{Answer}
 use Rattle.drivers.specs.declared.Answer.the-variants as answer
-use Rattle.bounds.specs.Used.{long}
 
 -- the answer y, if it fits, is x
 record Same (x y : Answer) : Type 0 where
@@ -130,9 +130,9 @@ module _ (part more : List ℕ) where
         rw (a, b, c) (pick-same (eqb (getD part 0 0) 0) (same refl) (to-same kind (getD part 0 0)))
 
   pub answer-same : (kind : ℕ) → isUnfit (answerOf part kind) ≡ false → answerOf (part ++ more) kind ≡ answerOf part kind
-  answer-same kind u = first-same (long part kind u) kind .so u
+  answer-same kind u = first-same (part-long part kind _ refl u) kind .so u
 
   -- so are the number of its items and the items
   pub count-as : (kind : ℕ) → isUnfit (answerOf part kind) ≡ false → itemCount (answerOf part kind) (part ++ more) ≡ itemCount (answerOf part kind) part
   unfolding itemCount
-  count-as kind u = cc (count-same (long part kind u))
+  count-as kind u = cc (count-same (part-long part kind _ refl u))

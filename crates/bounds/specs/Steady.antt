@@ -12,12 +12,13 @@ use borrow.Author.Tests.{ne-eqb}
 use Rattle.protocol.specs.Protocol.{bytesOf}
 use Rattle.protocol.specs.declared.Out.{Out}
 use Rattle.drivers.specs.Answers.{answerOf, itemCount, itemsOf, isUnfit, isDone}
+use Rattle.drivers.specs.AnswersLaws.{answer-there}
 use Rattle.drivers.specs.Talk.{Stop, going, waits, declined, overrun, Talk, Got, Act, got, next, Reply, noReply, ask, askAt, askRoom, askLeft, askFit, plainCall, opening, isOpen, openFor, openIf, openedBy, askIf, useCall, send, sendAt, sendRoom}
 use Rattle.drivers.specs.declared.Call.{Call}
 use Rattle.drivers.specs.declared.Answer.{Answer}
 use Rattle.bounds.specs.Longer.{Starts, Again}
 use Rattle.bounds.specs.Spending.{Rules, Takes}
-use Rattle.bounds.specs.Used.{items-there, Any}
+use Rattle.bounds.specs.Used.{Any}
 use Rattle.bounds.specs.Reading.{answer-same, count-as, items-same}
 
 -- the same line with more answers behind those that are left
@@ -204,7 +205,7 @@ module _ (x : ℕ) (l : List ℕ) (c : Call) where
     taken f =
         let a = answerOf (t .left) (c .kind) in
         let n = itemCount a (t .left) in
-        let fits : 16 + 16 * n ≤ length (t .left) = items-there (t .left) (c .kind) f in
+        let fits : 16 + 16 * n ≤ length (t .left) = answer-there (t .left) (c .kind) _ _ refl f refl in
         let i : itemCount a (t .left ++ more) ≡ n = count-as (t .left) more (c .kind) f in
         let j : itemsOf n (t .left ++ more) ≡ itemsOf n (t .left) = items-same (t .left) more n fits in
         let d : drop (16 + 16 * n) (t .left ++ more) ≡ drop (16 + 16 * n) (t .left) ++ more = drop-append-le (16 + 16 * n) (t .left) more fits in

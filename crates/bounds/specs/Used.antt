@@ -1,27 +1,23 @@
 -- No event uses more answers than it was offered: the bytes used and the bytes left are always the bytes offered.
-use Prim.Native.Nat.{ℕ, _+_, _*_, _/_, _≤_, _<_}
-use mathlib.Core.Path.{_≡_, refl, sym, subst, _∙_}
-use mathlib.Core.Bool.{Bool, true, false, true≢false}
+use Prim.Native.Nat.{ℕ, _+_, _*_, _≤_}
+use mathlib.Core.Path.{_≡_, refl, subst}
+use mathlib.Core.Bool.{Bool, true, false}
 use mathlib.Core.List.{List, [], _∷_}
 use mathlib.Core.Option.{none}
 use native.Mathlib.Omega.{arith}
 use native.Mathlib.Nat.{div-mul-le-self}
-use lib.Dec.{eqb, leb, ltb}
+use lib.Dec.{eqb, leb}
 use lib.ListN.{length, getD, length-drop}
-use borrow.Author.Tests.{ltb-true, ltb-false}
-use Rattle.base.specs.Choice.{pick}
-use Rattle.base.specs.Range.{all}
 use Rattle.protocol.specs.Protocol.{bytesOf}
 use Rattle.protocol.specs.declared.Out.{Out}
 use Rattle.lookup.specs.View.{View}
 use Rattle.lookup.specs.declared.Entry.{Entry}
 use Rattle.lookup.specs.declared.Found.{Found}
 use Rattle.lookup.specs.declared.Found.the-variants as found
-use Rattle.drivers.specs.Answers.{countAt, itemFits, liveFits, listIf, sceneList, liveList, yesNo, toRead, toPlaying, toScenes, toCurrent, toLive, toOther, answerTo, answerOf, itemCount, isUnfit, isDone, isList}
+use Rattle.drivers.specs.Answers.{answerOf, itemCount, isUnfit, isDone}
+use Rattle.drivers.specs.AnswersLaws.{answer-there}
 use Rattle.drivers.specs.Talk.{Stop, going, waits, declined, overrun, Talk, Got, next, start, ask, askAt, askRoom, askLeft, askFit, plainCall, opening, isOpen, openFor, openIf, openedBy, askIf, useCall, send, sendAt, sendRoom}
 use Rattle.drivers.specs.declared.Call.{Call}
-use Rattle.drivers.specs.declared.Answer.{Answer}
-use Rattle.drivers.specs.declared.Answer.the-variants as answer
 use Rattle.session.specs.Session.{Turn, stripsOr}
 use Rattle.session.specs.declared.Strip.{Strip}
 use Rattle.event.specs.declared.Timed.{Timed}
@@ -30,88 +26,6 @@ use Rattle.bounds.specs.Bounds.{UsedOf}
 use Rattle.bounds.specs.Drivers.{MayTo, MayAll, no-entry, one-entry, Each, no-more, one-more, MayTurn, MayStrip, MayView, MayKept}
 use Rattle.bounds.specs.Spending.{Rules, Spent, spending}
 use Rattle.bounds.specs.Events.{act-takes}
-
--- ── an answer that fits is there with all its items ──
-
-module _ (part : List ℕ) where
-  -- a list's items are there
-  abbrev There : Answer → Type 0
-  There a = isList a ≡ true → countAt part < length part / 16
-
-  there-pick : (b : Bool) (x y : Answer) → There x → There y → There (pick b x y)
-  there-pick true x y h k = h
-  there-pick false x y h k = k
-
-  there-not : (a : Answer) → isList a ≡ false → There a
-  there-not a e q = absurd (true≢false (sym q ∙ e))
-
-  there-list : (fits : List ℕ → ℕ → Bool) (most : ℕ) → There (listIf fits most part)
-  there-list fits most =
-      there-pick (ltb most (countAt part)) answer.Unfit _ (there-not answer.Unfit refl) (go (ltb (countAt part) (length part / 16)) refl)
-    where
-      go : (b : Bool) → ltb (countAt part) (length part / 16) ≡ b →
-          There (pick b (pick (all (countAt part) (fits part)) answer.List answer.Unfit) answer.Unfit)
-      go true e q = ltb-true (countAt part) (length part / 16) e
-      go false e q = there-not answer.Unfit refl q
-
-  neither : (b : Bool) (x y : Answer) → isList x ≡ false → isList y ≡ false → isList (pick b x y) ≡ false
-  neither true x y h k = h
-  neither false x y h k = k
-
-  to-read : (k : ℕ) → isList (toRead k part) ≡ false
-  unfolding toRead
-  to-read k = neither (eqb k 2) _ _ refl (neither (eqb k 3) _ _ refl refl)
-
-  to-playing : (k : ℕ) → isList (toPlaying k part) ≡ false
-  unfolding toPlaying yesNo
-  to-playing k =
-      neither (eqb k 4) _ _ (neither (eqb (getD part 1 0) 0) _ _ refl (neither (eqb (getD part 1 0) 1) _ _ refl refl)) (neither (eqb k 3) _ _ refl refl)
-
-  to-current : (k : ℕ) → isList (toCurrent k part) ≡ false
-  unfolding toCurrent
-  to-current k = neither (eqb k 5) _ _ refl (neither (eqb k 3) _ _ refl refl)
-
-  to-other : (k : ℕ) → isList (toOther k) ≡ false
-  unfolding toOther
-  to-other k = neither (eqb k 1) _ _ refl refl
-
-  to-scenes : (k : ℕ) → There (toScenes k part)
-  unfolding toScenes sceneList
-  to-scenes k = there-pick (eqb k 6) (listIf itemFits 128 part) answer.Unfit (there-list itemFits 128) (there-not answer.Unfit refl)
-
-  to-live : (k : ℕ) → There (toLive k part)
-  unfolding toLive liveList
-  to-live k = there-pick (eqb k 6) (listIf liveFits 32 part) answer.Unfit (there-list liveFits 32) (there-not answer.Unfit refl)
-
-  there-answer : (kind k : ℕ) → There (answerTo kind k part)
-  there-answer kind k =
-      there-pick (eqb kind 1) (toRead k part) _ (there-not (toRead k part) (to-read k))
-      (there-pick (eqb kind 5) (toPlaying k part) _ (there-not (toPlaying k part) (to-playing k))
-      (there-pick (eqb kind 6) (toScenes k part) _ (to-scenes k)
-      (there-pick (eqb kind 7) (toCurrent k part) _ (there-not (toCurrent k part) (to-current k))
-      (there-pick (eqb kind 9) (toLive k part) (toOther k) (to-live k) (there-not (toOther k) (to-other k))))))
-
-  there-first : (kind : ℕ) → There (answerOf part kind)
-  unfolding answerOf
-  there-first kind =
-      there-pick (ltb (length part) 16) answer.Unfit _ (there-not answer.Unfit refl)
-      (there-pick (eqb (getD part 0 0) 0) answer.Refused (answerTo kind (getD part 0 0) part) (there-not answer.Refused refl) (there-answer kind (getD part 0 0)))
-
-  pub long : (kind : ℕ) → isUnfit (answerOf part kind) ≡ false → 16 ≤ length part
-  unfolding answerOf
-  long kind e = go (ltb (length part) 16) refl _ e
-    where
-      go : (b : Bool) → ltb (length part) 16 ≡ b → (y : Answer) → isUnfit (pick b answer.Unfit y) ≡ false → 16 ≤ length part
-      go true q y u = absurd (true≢false u)
-      go false q y u = ltb-false (length part) 16 q
-
-  pub items-there : (kind : ℕ) → isUnfit (answerOf part kind) ≡ false → 16 + 16 * itemCount (answerOf part kind) part ≤ length part
-  unfolding itemCount
-  items-there kind u = go (isList (answerOf part kind)) refl (long kind u)
-    where
-      go : (b : Bool) → isList (answerOf part kind) ≡ b → 16 ≤ length part → 16 + 16 * pick b (countAt part) 0 ≤ length part
-      go true e l = omega (arith, there-first kind e)
-      go false e l = omega arith
 
 -- ── the line ──
 
@@ -128,7 +42,7 @@ ask-fair all c t h = at (t .stop)
 
     fit-at : (b : Bool) → isUnfit (answerOf (t .left) (c .kind)) ≡ b → Fair all 0 0 ((askFit b c (answerOf (t .left) (c .kind)) t) .talk)
     fit-at true f = h
-    fit-at false f = omega (arith, items-there (t .left) (c .kind) f, length-drop (16 + 16 * n) (t .left))
+    fit-at false f = omega (arith, answer-there (t .left) (c .kind) _ _ refl f refl, length-drop (16 + 16 * n) (t .left))
 
     left-at : (b : Bool) → Fair all 0 0 ((askLeft b c t) .talk)
     left-at true = h

@@ -1,18 +1,16 @@
--- Bytes that were written are read back, an answer that fits stands whole in the answers, and `ask` and `send` over the code's line and both buffers
--- show `ask` and `send` of the definitions. Assumes nothing.
+-- Bytes that were written are read back, and `ask` and `send` over the code's line and both buffers show `ask` and `send` of the definitions. Assumes nothing.
 use Prim.Native.Nat.{ℕ, zero, suc, _+_, _*_, _-_, _/_, _%_, _≤_, _<_}
 use native.Mathlib.Omega.{arith}
 use native.Mathlib.Nat.{add-zero, zero-add, add-assoc}
 use native.Mathlib.Numerals.{add-one}
 use mathlib.Core.Path.{_≡_, refl, sym, ap, _∙_, subst}
-use mathlib.Core.Bool.{Bool, true, false, true≢false, false≢true}
+use mathlib.Core.Bool.{Bool, true, false}
 use mathlib.Core.List.{List, [], _∷_, _++_, map, map-append}
-use lib.Dec.{leb, ltb, eqb}
-use lib.ListN.{length, drop, take, set, getD, length-append, length-drop, length-take, length-set, List·getD-append, List·getD-eq-default}
+use lib.Dec.{leb, eqb}
+use lib.ListN.{length, drop, take, set, getD, length-drop, length-take, length-set, List·getD-append, List·getD-eq-default}
 use lib.Seq.{take-all, drop-drop, getD-append-add, getD-take, getD-drop, take-suc-set, set-out, sets-eq}
-use borrow.Author.Tests.{lt-ltb, le-ltb, le-leb, lt-leb, eq-eqb, ne-eqb, ltb-true, ltb-false, leb-true, leb-false, eqb-true}
+use borrow.Author.Tests.{lt-ltb, le-ltb, le-leb, lt-leb, eq-eqb, ne-eqb, leb-true, leb-false}
 use borrow.Rule.Slice.PartMut.{putMid}
-use Rattle.base.specs.Choice.{pick}
 use Rattle.base.specs.Range.{all}
 use Rattle.base.specs.Words.{le16, le32, le64, bytes16, bytes32, bytes64, put16, put32, put64}
 use Rattle.base.specs.WordsLaws.{halves16, halves32, halves64}
@@ -20,7 +18,8 @@ use Rattle.base.specs.Tail.{over, atFront, tail-over}
 use Rattle.protocol.specs.Protocol.{bytesOf}
 use Rattle.protocol.specs.declared.Out.{Out}
 use Rattle.protocol.specs.declared.Out.the-variants.{Led, Position}
-use Rattle.drivers.specs.Answers.{countAt, itemAt, itemsOf, itemFits, liveFits, listIf, sceneList, liveList, yesNo, toRead, toPlaying, toScenes, toCurrent, toLive, toOther, answerTo, answerOf, isUnfit, isList, itemCount}
+use Rattle.drivers.specs.Answers.{countAt, itemAt, itemsOf, listIf, answerOf, isUnfit, itemCount}
+use Rattle.drivers.specs.AnswersLaws.{answer-bounded, answer-there, item-most}
 use Rattle.drivers.specs.Talk.{going, Got, got, Reply, nameOf, plainCall, ask, askRoom, askLeft, askFit, isOpen, opening, send, sendRoom}
 use Rattle.drivers.specs.Shown.{callBytes, callAt, callsIn, messageAt, messagesIn, stopIn, shown, haltOf, notedOf, openedIn, sentOne, roomless, replyIn, Listing}
 use Rattle.drivers.specs.BytesLaws.{calls-length, messages-length}
@@ -187,122 +186,6 @@ module _ (fits : List ℕ → ℕ → Bool) (most : ℕ) (part : List ℕ) (n : 
 
     pub list-bad : b ≡ false → answer.Unfit ≡ listIf fits most part
     list-bad t = rw (← e, le-ltb most n l, lt-ltb n (length part / 16) k, ← q, t)
-
--- a list that fits has all its items, at most 128, of live faders at most 32
-record Bounded (part : List ℕ) (kind : ℕ) (a : Answer) : Type 0 where
-  within : isList a ≡ true → countAt part < length part / 16
-  scenes : isList a ≡ true → countAt part ≤ 128
-  live : isList a ≡ true → kind ≡ 9 → countAt part ≤ 32
-
-module _ (part : List ℕ) (kind : ℕ) where
-  no-list : (a : Answer) → isList a ≡ false → Bounded part kind a
-  no-list a e =
-      record {
-        within = λ y. absurd (false≢true (sym e ∙ y));
-        scenes = λ y. absurd (false≢true (sym e ∙ y));
-        live = λ y. absurd (false≢true (sym e ∙ y));
-      }
-
-  either : (b : Bool) (x y : Answer) → (b ≡ true → Bounded part kind x) → (b ≡ false → Bounded part kind y) → Bounded part kind (pick b x y)
-  either true x y f g = f refl
-  either false x y f g = g refl
-
-  -- neither is a list, whatever the test says
-  neither : (b : Bool) (x y : Answer) → isList x ≡ false → isList y ≡ false → isList (pick b x y) ≡ false
-  neither true x y f g = f
-  neither false x y f g = g
-
-  list-bounded : (fits : List ℕ → ℕ → Bool) (most : ℕ) → most ≤ 128 → (kind ≡ 9 → most ≤ 32) → Bounded part kind (listIf fits most part)
-  list-bounded fits most h k =
-      either (ltb most (countAt part)) _ _ (λ _. no-list answer.Unfit refl)
-      (λ e. either (ltb (countAt part) (length part / 16)) _ _
-      (λ f. either (all (countAt part) (fits part)) _ _ (λ _. found e f) (λ _. no-list answer.Unfit refl))
-      (λ _. no-list answer.Unfit refl))
-    where
-      found : ltb most (countAt part) ≡ false → ltb (countAt part) (length part / 16) ≡ true → Bounded part kind answer.List
-      found e f =
-          let m = ltb-false most (countAt part) e in
-          record {
-            within = λ _. ltb-true (countAt part) (length part / 16) f;
-            scenes = λ _. omega arith;
-            live = λ _ q. omega (arith, k q);
-          }
-
-  to-scenes : (k : ℕ) → kind ≡ 6 → Bounded part kind (toScenes k part)
-  unfolding toScenes sceneList
-  to-scenes k e = either (eqb k 6) _ _ (λ _. list-bounded itemFits 128 (omega arith) (λ q. absurd (omega arith))) (λ _. no-list answer.Unfit refl)
-
-  to-live : (k : ℕ) → Bounded part kind (toLive k part)
-  unfolding toLive liveList
-  to-live k = either (eqb k 6) _ _ (λ _. list-bounded liveFits 32 (omega arith) (λ q. omega arith)) (λ _. no-list answer.Unfit refl)
-
-  to-read : (k : ℕ) → isList (toRead k part) ≡ false
-  unfolding toRead
-  to-read k = neither (eqb k 2) _ _ refl (neither (eqb k 3) _ _ refl refl)
-
-  to-playing : (k : ℕ) → isList (toPlaying k part) ≡ false
-  unfolding toPlaying yesNo
-  to-playing k =
-      neither (eqb k 4) _ _ (neither (eqb (getD part 1 0) 0) _ _ refl (neither (eqb (getD part 1 0) 1) _ _ refl refl)) (neither (eqb k 3) _ _ refl refl)
-
-  to-current : (k : ℕ) → isList (toCurrent k part) ≡ false
-  unfolding toCurrent
-  to-current k = neither (eqb k 5) _ _ refl (neither (eqb k 3) _ _ refl refl)
-
-  to-other : (k : ℕ) → isList (toOther k) ≡ false
-  unfolding toOther
-  to-other k = neither (eqb k 1) _ _ refl refl
-
-  to-call : (k : ℕ) → Bounded part kind (answerTo kind k part)
-  to-call k =
-      either (eqb kind 1) _ _ (λ _. no-list _ (to-read k))
-      (λ _. either (eqb kind 5) _ _ (λ _. no-list _ (to-playing k))
-      (λ _. either (eqb kind 6) _ _ (λ e. to-scenes k (eqb-true kind 6 e))
-      (λ _. either (eqb kind 7) _ _ (λ _. no-list _ (to-current k))
-      (λ _. either (eqb kind 9) _ _ (λ _. to-live k) (λ _. no-list _ (to-other k))))))
-
-  answer-bounded : Bounded part kind (answerOf part kind)
-  unfolding answerOf
-  answer-bounded =
-      either (ltb (length part) 16) _ _ (λ _. no-list answer.Unfit refl)
-      (λ _. either (eqb (getD part 0 0) 0) _ _ (λ _. no-list answer.Refused refl) (λ _. to-call (getD part 0 0)))
-
-  -- an answer that fits has its own record
-  fit-long : isUnfit (answerOf part kind) ≡ false → 16 ≤ length part
-  unfolding answerOf
-  fit-long e = go (ltb (length part) 16) refl _ e
-    where
-      go : (b : Bool) → ltb (length part) 16 ≡ b → (y : Answer) → isUnfit (pick b answer.Unfit y) ≡ false → 16 ≤ length part
-      go true q y u = absurd (true≢false u)
-      go false q y u = ltb-false (length part) 16 q
-
-  -- how many items stand behind it
-  counted : (a : Answer) → Bounded part kind a → 16 ≤ length part → 16 + 16 * itemCount a part ≤ length part
-  unfolding itemCount
-  counted a h l = go (isList a) refl
-    where
-      go : (b : Bool) → isList a ≡ b → 16 + 16 * pick b (countAt part) 0 ≤ length part
-      go true e = omega (arith, h .within e)
-      go false e = omega arith
-
-  -- the answer and its items are there
-  pub answer-there : (a : Answer) (n : ℕ) → a ≡ answerOf part kind → isUnfit a ≡ false → n ≡ itemCount a part → 16 + 16 * n ≤ length part
-  answer-there a n e u q =
-      let b : Bounded part kind a = rw e answer-bounded in
-      let l : 16 ≤ length part = fit-long (rw e at u) in
-      rw q (counted a b l)
-
-  item-most : (a : Answer) → Bounded part kind a → (itemCount a part ≤ 128) × (kind ≡ 9 → itemCount a part ≤ 32)
-  unfolding itemCount
-  item-most a h = go (isList a) refl
-    where
-      go : (b : Bool) → isList a ≡ b → (pick b (countAt part) 0 ≤ 128) × (kind ≡ 9 → pick b (countAt part) 0 ≤ 32)
-      go true e = (h .scenes e, h .live e)
-      go false e = (omega arith, λ _. omega arith)
-
-  -- it has its own record
-  pub part-long : (a : Answer) → a ≡ answerOf part kind → isUnfit a ≡ false → 16 ≤ length part
-  part-long a e u = fit-long (rw e at u)
 
 -- what is read from the part that is handed on is read from the answers' rest
 module _ (ans : List ℕ) (n : ℕ) where

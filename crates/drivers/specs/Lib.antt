@@ -1,4 +1,5 @@
 pub mod Answers
+pub mod AnswersLaws
 pub mod Talk
 pub mod Shown
 pub mod Bytes

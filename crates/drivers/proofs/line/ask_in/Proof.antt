@@ -1,4 +1,5 @@
-use Rattle.drivers.proofs.Laws.{ask-stopped, ask-full, ask-waits, ask-declined, ask-made, no-listing, halted-listing, listing, answer-part, items-part, answer-there, part-long}
+use Rattle.drivers.proofs.Laws.{ask-stopped, ask-full, ask-waits, ask-declined, ask-made, no-listing, halted-listing, listing, answer-part, items-part}
+use Rattle.drivers.specs.AnswersLaws.{answer-there, part-long}
 use lib.ListN.{length-drop}
 use mathlib.Core.Path.{sym, _∙_}
 use native.Mathlib.Omega.{arith}

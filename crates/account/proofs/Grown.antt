@@ -1,9 +1,8 @@
 -- If the line goes on at the end, it went on at the start, and the calls have grown by what is claimed. One record, two rules.
 use Prim.Native.Nat.{ℕ}
-use mathlib.Core.Path.{_≡_, refl, sym, ap, _∙_}
+use mathlib.Core.Path.{_≡_, refl, sym, _∙_}
 use mathlib.Core.Bool.{Bool, true, false, false≢true, true≢false}
 use mathlib.Core.List.{List, [], _∷_, _++_, append-nil, append-assoc}
-use native.Mathlib.Omega.{arith}
 use lib.Dec.{eqb, leb, ltb}
 use lib.ListN.{length, getD}
 use Rattle.base.specs.Choice.{pick}
@@ -12,6 +11,7 @@ use Rattle.protocol.specs.declared.Out.{Out}
 use Rattle.drivers.specs.Answers.{answerOf, toOther, itemCount, itemsOf, isUnfit, isDone}
 use Rattle.drivers.specs.Talk.{Stop, going, waits, declined, overrun, Talk, Got, next, Reply, noReply, ask, askAt, askRoom, askLeft, askFit, isOpen, opening, plainCall, openFor, openIf, openedBy, askIf, useCall, send, sendAt, sendRoom}
 use Rattle.drivers.specs.Paired.{Asked, replyTo, behind, after, paired}
+use Rattle.drivers.specs.PairedLaws.{after-append, paired-append, waits-on, declined-on, overrun-on}
 use Rattle.drivers.specs.declared.Call.{Call}
 use Rattle.drivers.specs.declared.Answer.{Answer}
 use Rattle.drivers.specs.declared.Answer.the-variants as answer
@@ -32,16 +32,6 @@ pub opens-append : (l m : List Asked) (o : List Bool) → opens (l ++ m) o ≡ o
 unfolding opens
 opens-append [] m o = refl
 opens-append (x ∷ l) m o = opens-append l m (opened x o)
-
-pub paired-append : (l m : List Call) (part : List ℕ) → paired (l ++ m) part ≡ paired l part ++ paired m (after l part)
-unfolding paired after
-paired-append [] m part = refl
-paired-append (c ∷ l) m part = ap (λ (r : List Asked). saying c (replyTo c part) ∷ r) (paired-append l m (behind c part))
-
-pub after-append : (l m : List Call) (part : List ℕ) → after (l ++ m) part ≡ after m (after l part)
-unfolding after
-after-append [] m part = refl
-after-append (c ∷ l) m part = after-append l m (behind c part)
 
 -- nothing asked
 pub same : (P : List Asked → Type 0) (t : Talk) → Goes t → P [] → Grown P t t
@@ -67,15 +57,6 @@ join {t = t} g h k =
       opened = h .opened ∙ rw (g .opened, paired-append, opens-append, g .left);
       fact = rw (paired-append, ← g .left) (k _ (h .fact));
     }
-
-pub waits-on : {c : Call} → waits c ≡ going → ⊥
-waits-on e = let z : _≡_ {A = ℕ} 0 1 = cc in omega arith
-
-pub declined-on : declined ≡ going → ⊥
-declined-on e = let z : _≡_ {A = ℕ} 0 1 = cc in omega arith
-
-pub overrun-on : overrun ≡ going → ⊥
-overrun-on e = let z : _≡_ {A = ℕ} 0 1 = cc in omega arith
 
 -- ── one call ──
 

@@ -1,6 +1,5 @@
 -- One call adds one pair of call and answer, if the line goes on, and none if it stops. Assumes nothing.
 use Prim.Native.Nat.{ℕ}
-use native.Mathlib.Omega.{arith}
 use mathlib.Core.Path.{_≡_, refl, sym, ap, _∙_}
 use mathlib.Core.Bool.{Bool, true, false}
 use mathlib.Core.List.{List, [], _∷_, _++_}
@@ -11,18 +10,18 @@ use Rattle.protocol.specs.declared.Out.{Out}
 use Rattle.drivers.specs.Answers.{answerOf, isUnfit}
 use Rattle.drivers.specs.Talk.{Stop, going, waits, declined, overrun, Talk, Got, Reply, start, ask, askAt, askRoom, askLeft, askFit, opening, send, sendAt, sendRoom}
 use Rattle.drivers.specs.Paired.{replyTo, behind, after, paired, Fed}
+use Rattle.drivers.specs.PairedLaws.{after-append, paired-append, waits-on, declined-on, overrun-on}
 use Rattle.drivers.specs.declared.Call.{Call}
 
+-- one call more
 after-more : (cs : List Call) (c : Call) (ans : List ℕ) → after (cs ++ (c ∷ [])) ans ≡ behind c (after cs ans)
 unfolding after
-after-more [] c ans = refl
-after-more (x ∷ cs) c ans = after-more cs c (behind x ans)
+after-more cs c ans = after-append cs (c ∷ []) ans
 
 paired-more : (cs : List Call) (c : Call) (ans : List ℕ) →
     paired (cs ++ (c ∷ [])) ans ≡ paired cs ans ++ (record { call = c; reply = replyTo c (after cs ans) } ∷ [])
-unfolding after paired
-paired-more [] c ans = refl
-paired-more (x ∷ cs) c ans = rw (paired-more cs c (behind x ans))
+unfolding paired
+paired-more cs c ans = paired-append cs (c ∷ []) ans
 
 -- what a call does to a line that was offered the answers
 pub record Took (ans : List ℕ) (c : Call) (t : Talk) (r : Got Reply) : Type 0 where
@@ -32,18 +31,9 @@ pub record Took (ans : List ℕ) (c : Call) (t : Talk) (r : Got Reply) : Type 0 
   -- it has stopped: no call was made
   pub none : (r .talk .stop ≡ going → ⊥) → r .talk .calls ≡ t .calls
 
-waits-not : (c : Call) → waits c ≡ going → ⊥
-waits-not c e = let z : _≡_ {A = ℕ} 0 1 = cc in omega arith
-
-declined-not : declined ≡ going → ⊥
-declined-not e = let z : _≡_ {A = ℕ} 0 1 = cc in omega arith
-
-overrun-not : overrun ≡ going → ⊥
-overrun-not e = let z : _≡_ {A = ℕ} 0 1 = cc in omega arith
-
 module _ (ans : List ℕ) (c : Call) (t : Talk) (f : Fed ans t) where
   fit : t .stop ≡ going → (b : Bool) → Took ans c t (askFit b c (answerOf (t .left) (c .kind)) t)
-  fit q true = record { fed = f; more = λ e. absurd (declined-not e); none = λ _. refl }
+  fit q true = record { fed = f; more = λ e. absurd (declined-on e); none = λ _. refl }
   fit q false =
       record {
         fed = ap (behind c) f ∙ sym (after-more (t .calls) c ans);
@@ -52,18 +42,18 @@ module _ (ans : List ℕ) (c : Call) (t : Talk) (f : Fed ans t) where
       }
 
   left : t .stop ≡ going → (b : Bool) → Took ans c t (askLeft b c t)
-  left q true = record { fed = f; more = λ e. absurd (waits-not c e); none = λ _. refl }
+  left q true = record { fed = f; more = λ e. absurd (waits-on e); none = λ _. refl }
   left q false = fit q (isUnfit (answerOf (t .left) (c .kind)))
 
   room : t .stop ≡ going → (b : Bool) → Took ans c t (askRoom b c t)
-  room q true = record { fed = f; more = λ e. absurd (overrun-not e); none = λ _. refl }
+  room q true = record { fed = f; more = λ e. absurd (overrun-on e); none = λ _. refl }
   room q false = left q (eqb (length (t .left)) 0)
 
   at-stop : (s : Stop) → t .stop ≡ s → Took ans c t (askAt s c t)
   at-stop going q = room q (leb 337 (length (t .calls)))
-  at-stop (waits d) q = record { fed = f; more = λ e. absurd (waits-not d (sym q ∙ e)); none = λ _. refl }
-  at-stop declined q = record { fed = f; more = λ e. absurd (declined-not (sym q ∙ e)); none = λ _. refl }
-  at-stop overrun q = record { fed = f; more = λ e. absurd (overrun-not (sym q ∙ e)); none = λ _. refl }
+  at-stop (waits d) q = record { fed = f; more = λ e. absurd (waits-on (sym q ∙ e)); none = λ _. refl }
+  at-stop declined q = record { fed = f; more = λ e. absurd (declined-on (sym q ∙ e)); none = λ _. refl }
+  at-stop overrun q = record { fed = f; more = λ e. absurd (overrun-on (sym q ∙ e)); none = λ _. refl }
 
 pub ask-took : (ans : List ℕ) (c : Call) (t : Talk) → Fed ans t → Took ans c t (ask c t)
 unfolding ask

@@ -5,3 +5,4 @@ pub mod Shown
 pub mod Bytes
 pub mod BytesLaws
 pub mod Paired
+pub mod PairedLaws

@@ -10,7 +10,7 @@ use lib.ListN.{length, getD, take, set, drop, drop-of-length-le, length-take, le
 use lib.Seq.{take-suc, take-set-lt, take-suc-set, getD-take, length-take-le, drop-cons}
 use lib.Dec.{ltb, leb}
 use borrow.Author.Tests.{lt-ltb, le-ltb, leb-false, ltb-true, ltb-false}
-use Rattle.base.specs.Pigeon.{first-no, rest-no, no-left, no-right}
+use Rattle.base.specs.Pigeon.{all-append, once-append}
 use Rattle.base.specs.Choice.{pick}
 use Rattle.base.specs.Keyed.{at, find, anyOf, allOf, change, keep, noTwice}
 
@@ -238,14 +238,7 @@ module _ {A : Type 0} (f : A → Bool) (d : A) where
 
   pub every-more : (xs : List A) (i : ℕ) → i < length xs → allOf f (take i xs) ≡ true → f (getD xs i d) ≡ true → allOf f (take (suc i) xs) ≡ true
   unfolding allOf
-  every-more [] i h e g = absurd (omega arith)
-  every-more (x ∷ xs) zero h e g = rw (g, every-none xs)
-  every-more (x ∷ xs) (suc i) h e g = go (f x) e (λ k. every-more xs i (omega arith) k g)
-    where
-      go : (b : Bool) → pick b (allOf f (take i xs)) false ≡ true → (allOf f (take i xs) ≡ true → allOf f (take (suc i) xs) ≡ true) →
-          pick b (allOf f (take (suc i) xs)) false ≡ true
-      go true k ih = ih k
-      go false k ih = k
+  every-more xs i h e g = rw (take-suc xs i d h) (all-append f (take i xs) (getD xs i d ∷ []) e (rw g))
 
   pub every-stop : (xs : List A) (i n : ℕ) → i < n → n ≤ length xs → f (getD xs i d) ≡ false → allOf f (take n xs) ≡ false
   unfolding allOf
@@ -276,27 +269,8 @@ module _ {A : Type 0} (same : A → A → Bool) (d : A) where
   once-none [] = refl
   once-none (x ∷ xs) = refl
 
-  any-snoc : (f : A → Bool) (xs : List A) (i : ℕ) → i < length xs → anyOf f (take i xs) ≡ false → f (getD xs i d) ≡ false → anyOf f (take (suc i) xs) ≡ false
-  unfolding anyOf
-  any-snoc f [] i h e g = absurd (omega arith)
-  any-snoc f (x ∷ xs) zero h e g = rw g (none-yet xs)
-    where
-      none-yet : (l : List A) → anyOf f (take 0 l) ≡ false
-      none-yet [] = refl
-      none-yet (z ∷ l) = refl
-  any-snoc f (x ∷ xs) (suc i) h e g = rw (first-no (f x) (anyOf f (take i xs)) e) (any-snoc f xs i (omega arith) (rest-no (f x) (anyOf f (take i xs)) e) g)
-
   pub once-more : (xs : List A) (i : ℕ) → i < length xs → noTwice same (take i xs) ≡ true → anyOf (again xs i) (take i xs) ≡ false → noTwice same (take (suc i) xs) ≡ true
-  unfolding noTwice anyOf
-  once-more [] i h e g = absurd (omega arith)
-  once-more (x ∷ xs) zero h e g = go xs
-    where
-      go : (l : List A) → noTwice same (x ∷ take 0 l) ≡ true
-      go [] = refl
-      go (z ∷ l) = refl
-  once-more (x ∷ xs) (suc i) h e g =
-      rw (any-snoc (same x) xs i (omega arith) (no-left (anyOf (same x) (take i xs)) (noTwice same (take i xs)) e) (first-no (same x (getD xs i d)) (anyOf (again xs i) (take i xs)) g))
-      (once-more xs i (omega arith) (no-right (anyOf (same x) (take i xs)) (noTwice same (take i xs)) e) (rest-no (same x (getD xs i d)) (anyOf (again xs i) (take i xs)) g))
+  once-more xs i h e g = rw (take-suc xs i d h) (once-append same (take i xs) (getD xs i d) e g)
 
   any-in : (f : A → Bool) (xs : List A) (i n : ℕ) → i < n → n ≤ length xs → f (getD xs i d) ≡ true → anyOf f (take n xs) ≡ true
   unfolding anyOf

@@ -42,6 +42,33 @@ unfolding allOf
 all-append f [] ys a b = b
 all-append f (x ∷ xs) ys a b = rw (left-of (f x) (allOf f xs) a) (all-append f xs ys (right-of (f x) (allOf f xs) a) b)
 
+-- one more at the end
+module _ {A : Type 0} where
+  any-append : (f : A → Bool) (l : List A) (x : A) → anyOf f l ≡ false → f x ≡ false → anyOf f (l ++ (x ∷ [])) ≡ false
+  unfolding anyOf
+  any-append f [] x h k = rw k
+  any-append f (y ∷ l) x h k = rw (first-no (f y) (anyOf f l) h) (any-append f l x (rest-no (f y) (anyOf f l) h) k)
+
+  -- that is the same as none before
+  pub once-append : (same : A → A → Bool) (l : List A) (x : A) → noTwice same l ≡ true → anyOf (λ y. same y x) l ≡ false → noTwice same (l ++ (x ∷ [])) ≡ true
+  unfolding noTwice anyOf
+  once-append same [] x h k = refl
+  once-append same (y ∷ l) x h k =
+      let a = any-append (same y) l x (no-left (anyOf (same y) l) (noTwice same l) h) (first-no (same y x) (anyOf (λ z. same z x) l) k) in
+      rw a (once-append same l x (no-right (anyOf (same y) l) (noTwice same l) h) (rest-no (same y x) (anyOf (λ z. same z x) l) k))
+
+-- a change to what passes
+pub all-change : {A : Type 0} (f g : A → Bool) (h : A → A) (y : A) → f y ≡ true → ((x : A) → f (h x) ≡ true) →
+    (l : List A) → allOf f l ≡ true → allOf f (change g h y l) ≡ true
+unfolding allOf change
+all-change f g h y new to [] e = rw new
+all-change f g h y new to (x ∷ l) e =
+    go (g x) (left-of (f x) (allOf f l) e) (right-of (f x) (allOf f l) e) (all-change f g h y new to l (right-of (f x) (allOf f l) e))
+  where
+    go : (b : Bool) → f x ≡ true → allOf f l ≡ true → allOf f (change g h y l) ≡ true → allOf f (pick b (h x ∷ l) (x ∷ change g h y l)) ≡ true
+    go true p q r = rw (to x, q)
+    go false p q r = rw (p, r)
+
 -- ── what keeping leaves ──
 module _ {A : Type 0} where
   -- where none passes, none of those that are kept does
@@ -138,16 +165,8 @@ module _ {A : Type 0} (key : A → ℕ) (k : ℕ) (g : A → A) (y : A) (kg : (z
   is x = eqb (key x) k
 
   pub every-change : (n : ℕ) (l : List A) → k < n → allOf (λ x. ltb (key x) n) l ≡ true → allOf (λ x. ltb (key x) n) (change is g y l) ≡ true
-  unfolding allOf change
-  every-change n [] h e = rw (ky, lt-ltb _ _ h)
-  every-change n (x ∷ l) h e =
-      go (is x) (left-of (ltb (key x) n) (allOf (λ z. ltb (key z) n) l) e) (right-of (ltb (key x) n) (allOf (λ z. ltb (key z) n) l) e)
-      (every-change n l h (right-of (ltb (key x) n) (allOf (λ z. ltb (key z) n) l) e))
-    where
-      go : (b : Bool) → ltb (key x) n ≡ true → allOf (λ z. ltb (key z) n) l ≡ true → allOf (λ z. ltb (key z) n) (change is g y l) ≡ true →
-          allOf (λ z. ltb (key z) n) (pick b (g x ∷ l) (x ∷ change is g y l)) ≡ true
-      go true p q r = rw (kg x, lt-ltb _ _ h, q)
-      go false p q r = rw (p, r)
+  every-change n l h e =
+      all-change (λ x. ltb (key x) n) is g y (rw (ky, lt-ltb _ _ h)) (λ z. rw (kg z, lt-ltb _ _ h)) l e
 
   any-change : (x : A) (l : List A) → (key x ≡ k → ⊥) → anyOf (same key x) l ≡ false → anyOf (same key x) (change is g y l) ≡ false
   unfolding anyOf change

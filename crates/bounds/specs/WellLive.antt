@@ -2,7 +2,7 @@
 use Prim.Native.Nat.{ℕ, zero, suc, _+_, _*_, _≤_, _<_}
 use mathlib.Core.Path.{_≡_, refl, ap}
 use mathlib.Core.Bool.{Bool, true, false, _&&_, _||_, not, false≢true}
-use mathlib.Core.List.{List, [], _∷_, _++_, map}
+use mathlib.Core.List.{List, [], _∷_, map}
 use mathlib.Core.Option.{Option, none, some}
 use native.Mathlib.Omega.{arith}
 use lib.Dec.{eqb, leb, ltb}
@@ -13,7 +13,7 @@ use Rattle.base.specs.Range.{all, every}
 use Rattle.base.specs.RangeLaws.{and-left, and-right, all-none}
 use Rattle.base.specs.Words.{le16}
 use Rattle.base.specs.Keyed.{anyOf, allOf, keep, noTwice}
-use Rattle.base.specs.Pigeon.{left-of, right-of, all-append, first-no, rest-no, no-left, no-right}
+use Rattle.base.specs.Pigeon.{left-of, right-of, all-append, once-append}
 use Rattle.drivers.specs.Answers.{countAt, itemAt, itemsOf, itemFits, liveFits, listIf, liveList, toLive, answerTo, answerOf, itemCount, isUnfit, isList}
 use Rattle.drivers.specs.Talk.{Stop, going, waits, declined, overrun, Talk, next, Reply, askFit, askLeft, askRoom, askAt, ask, askIf as askWhen, openFor, useCall, plainCall, liveOf}
 use Rattle.drivers.specs.declared.Answer.{Answer}
@@ -34,20 +34,6 @@ use Rattle.bounds.specs.Well.{WellStrips}
 
 abbrev below : ℕ → LiveFader → Bool
 below m f = ltb (f .number) m
-
-module _ {A : Type 0} where
-  any-append : (f : A → Bool) (l : List A) (x : A) → anyOf f l ≡ false → f x ≡ false → anyOf f (l ++ (x ∷ [])) ≡ false
-  unfolding anyOf
-  any-append f [] x h k = rw k
-  any-append f (y ∷ l) x h k = rw (first-no (f y) (anyOf f l) h) (any-append f l x (rest-no (f y) (anyOf f l) h) k)
-
-  -- one more at the end that is the same as none before
-  once-append : (same : A → A → Bool) (l : List A) (x : A) → noTwice same l ≡ true → anyOf (λ y. same y x) l ≡ false → noTwice same (l ++ (x ∷ [])) ≡ true
-  unfolding noTwice anyOf
-  once-append same [] x h k = refl
-  once-append same (y ∷ l) x h k =
-      let a = any-append (same y) l x (no-left (anyOf (same y) l) (noTwice same l) h) (first-no (same y x) (anyOf (λ z. same z x) l) k) in
-      rw a (once-append same l x (no-right (anyOf (same y) l) (noTwice same l) h) (rest-no (same y x) (anyOf (λ z. same z x) l) k))
 
 below-free : (x : LiveFader) (l : List LiveFader) → allOf (below (x .number)) l ≡ true → anyOf (λ y. sameNumber y x) l ≡ false
 unfolding allOf anyOf

@@ -10,7 +10,7 @@ use lib.Ieee.{Float}
 use borrow.Author.Tests.{eqb-true, eqb-false, eq-eqb, ne-eqb, lt-ltb}
 use Rattle.base.specs.Choice.{pick}
 use Rattle.base.specs.Keyed.{anyOf, allOf, change, keep, noTwice}
-use Rattle.base.specs.Pigeon.{left-of, right-of, no-left, no-right, first-no, rest-no}
+use Rattle.base.specs.Pigeon.{left-of, right-of, all-change, no-left, no-right, first-no, rest-no}
 use Rattle.float.specs.Leaf.{f0}
 use Rattle.lookup.specs.declared.Destination.{Destination}
 use Rattle.lookup.specs.declared.Found.{Found}
@@ -79,17 +79,6 @@ module _ {A : Type 0} where
       go : (b : Bool) → f x ≡ true → allOf f (keep g l) ≡ true → allOf f (pick b (x ∷ keep g l) (keep g l)) ≡ true
       go true p k = rw (p, k)
       go false p k = k
-
-  all-changed : (f g : A → Bool) (h : A → A) (y : A) → f y ≡ true → ((x : A) → f (h x) ≡ true) →
-      (l : List A) → allOf f l ≡ true → allOf f (change g h y l) ≡ true
-  unfolding allOf change
-  all-changed f g h y new to [] e = rw new
-  all-changed f g h y new to (x ∷ l) e =
-      go (g x) (left-of (f x) (allOf f l) e) (right-of (f x) (allOf f l) e) (all-changed f g h y new to l (right-of (f x) (allOf f l) e))
-    where
-      go : (b : Bool) → f x ≡ true → allOf f l ≡ true → allOf f (change g h y l) ≡ true → allOf f (pick b (h x ∷ l) (x ∷ change g h y l)) ≡ true
-      go true p q r = rw (to x, q)
-      go false p q r = rw (p, r)
 
   all-weaker : (f g : A → Bool) → ((x : A) → f x ≡ true → g x ≡ true) → (l : List A) → allOf f l ≡ true → allOf g l ≡ true
   unfolding allOf
@@ -199,7 +188,7 @@ module _ (m : List ℕ) where
   hush-so target v s h w =
       record {
         once = hush-once s target v (w .once);
-        all = all-changed (λ e. among m (e .target)) (isTarget target) (λ e. hushedAt target v) (hushedAt target v) h (λ e. h) s (w .all);
+        all = all-change (λ e. among m (e .target)) (isTarget target) (λ e. hushedAt target v) (hushedAt target v) h (λ e. h) s (w .all);
       }
 
   pub unhush-so : (target : ℕ) (s : List Hushed) → Within m s → Within m (unhush target s)

@@ -12,8 +12,8 @@ use borrow.Author.Tests.{le-leb, eqb-true, eq-eqb}
 use Rattle.base.specs.Choice.{pick}
 use Rattle.base.specs.Range.{every}
 use Rattle.base.specs.RangeLaws.{and-left}
-use Rattle.base.specs.Keyed.{find, allOf, change}
-use Rattle.base.specs.Pigeon.{all-append}
+use Rattle.base.specs.Keyed.{find, allOf}
+use Rattle.base.specs.Pigeon.{all-append, all-change}
 use Rattle.base.specs.declared.Place.{Place}
 use Rattle.base.specs.declared.Place.the-variants.{At, Nothing}
 use Rattle.profile.specs.Profile.{records, byteAt, halfAt, bankCount, control, verdict}
@@ -106,18 +106,6 @@ module _ (s : List ℕ) (ok : verdict s ≡ 0) where
 abbrev pub lowDriver : Entry → Bool
 lowDriver e = leb (e .command .driver) 15
 
-module _ {A : Type 0} (f : A → Bool) where
-  all-change : (g : A → Bool) (y : A) (xs : List A) → f y ≡ true → allOf f xs ≡ true → allOf f (change g (λ x. y) y xs) ≡ true
-  unfolding allOf change
-  all-change g y [] h a = rw h
-  all-change g y (x ∷ xs) h a = go (g x) (f x) refl a (all-change g y xs h)
-    where
-      go : (t u : Bool) → f x ≡ u → pick u (allOf f xs) false ≡ true → (allOf f xs ≡ true → allOf f (change g (λ z. y) y xs) ≡ true) →
-          allOf f (pick t (y ∷ xs) (x ∷ change g (λ z. y) y xs)) ≡ true
-      go true true e q ih = rw h q
-      go false true e q ih = rw e (ih q)
-      go t false e q ih = let z : _≡_ {A = Bool} true false = sym q in cc
-
 module _ (s : List ℕ) (ok : verdict s ≡ 0) where
   low-gathered : (part n : ℕ) → n ≤ records s → allOf lowDriver (gather n (ofPart s 5 part) (entryAt s)) ≡ true
   unfolding gather allOf
@@ -141,7 +129,7 @@ low-merged (e ∷ g) own a b = go (lowDriver e) refl a (low-merged g (place e ow
     go : (t : Bool) → lowDriver e ≡ t → pick t (allOf lowDriver g) false ≡ true →
         (allOf lowDriver g ≡ true → allOf lowDriver (place e own) ≡ true → allOf lowDriver (merged g (place e own)) ≡ true) →
         allOf lowDriver (merged g (place e own)) ≡ true
-    go true h q ih = ih q (all-change lowDriver (ofKind (e .kind)) e own h b)
+    go true h q ih = ih q (all-change lowDriver (ofKind (e .kind)) (λ x. e) e h (λ x. h) own b)
     go false h q ih = let z : _≡_ {A = Bool} true false = sym q in cc
 
 pub known-merged : (s : List ℕ) → verdict s ≡ 0 → (part : ℕ) → allOf lowDriver (merged (transportsOf s 255) (transportsOf s part)) ≡ true

@@ -3,7 +3,8 @@ use Prim.Native.Nat.{ℕ, zero, suc, _≤_, _<_}
 use mathlib.Core.Path.{_≡_, refl}
 use mathlib.Core.Bool.{Bool, true, false}
 use mathlib.Core.List.{List, [], _∷_, _++_}
-use mathlib.Core.Logic.{_⊎_, inl, inr, ⊎-elim}
+use mathlib.Core.Logic.{⊎-elim}
+use native.Mathlib.Nat.{eq-zero-or-pos}
 use native.Mathlib.Omega.{arith}
 use lib.Dec.{eqb, ltb}
 use lib.ListN.{length}
@@ -70,10 +71,6 @@ module _ (s : List ℕ) (yes : verdict s ≡ 0) where
   unfolding transportsOf
   transports-may part = gathered part (records s) (omega arith)
 
-  none-or-some : (n : ℕ) → (n ≡ 0) ⊎ (0 < n)
-  none-or-some zero = inl refl
-  none-or-some (suc n) = inr (omega arith)
-
   -- a part that no record names has none
   far : (part : ℕ) → 256 ≤ part → count (records s) (ofPart s 5 part) ≤ 16
   far part h =
@@ -83,7 +80,7 @@ module _ (s : List ℕ) (yes : verdict s ≡ 0) where
       let q : byteAt s (w .0) 0 ≡ 5 = eqb-true (byteAt s (w .0) 0) 5 (and-left (isKind s 5 (w .0)) (eqb (byteAt s (w .0) 1) part) (w .2)) in
       let r : byteAt s (w .0) 1 ≡ part = eqb-true (byteAt s (w .0) 1) part (and-right (isKind s 5 (w .0)) (eqb (byteAt s (w .0) 1) part) (w .2)) in
       absurd (⊎-elim (λ a. omega (arith, a, r, h)) (λ a. omega (arith, a, r, h)) (transport-at s (accepted s yes .fields) (w .0) (w .1) q .bank)))
-      (none-or-some (count (records s) (ofPart s 5 part)))
+      (eq-zero-or-pos (count (records s) (ofPart s 5 part)))
 
   few : (part : ℕ) → length (transportsOf s part) ≤ 16
   unfolding transportsOf

@@ -7,7 +7,7 @@ use mathlib.Core.Option.{none}
 use native.Mathlib.Omega.{arith}
 use lib.Dec.{eqb, leb, ltb}
 use lib.IntN.{ℤ}
-use lib.ListN.{length, getD, take}
+use lib.ListN.{length, getD, take, length-take}
 use borrow.Author.Tests.{eqb-true, leb-true, ltb-true, lt-ltb}
 use Rattle.base.specs.Choice.{pick}
 use Rattle.base.specs.Range.{every}
@@ -40,11 +40,6 @@ use Rattle.bounds.specs.Channels.{read-low}
 
 -- ── what number 8 lets pass is well shaped as it is seen ──
 
-take-short : {A : Type 0} (n : ℕ) (l : List A) → length (take n l) ≤ n
-take-short zero l = omega arith
-take-short (suc n) [] = omega arith
-take-short (suc n) (x ∷ l) = omega (arith, take-short n l)
-
 beside-short : {A B C : Type 0} (f : A → B → C) (xs : List A) (ys : List B) → length (beside f xs ys) ≤ length xs
 unfolding beside
 beside-short f [] ys = omega arith
@@ -74,7 +69,7 @@ strips-well s e = go (s .known) e
     go true h =
         let n : s .count ≤ 8 = leb-true (s .count) 8 (every-at (stripTests s) 0 h) in
         record {
-          few = omega (arith, take-short (s .count) (s .list));
+          few = omega (arith, length-take (s .count) (s .list));
           good = every-at (stripTests s) 1 h;
           once = every-at (stripTests s) 2 h;
         }
@@ -116,11 +111,11 @@ well-seen p s o e =
       bank = ltb-true (s .bank) (bankCount p) (every-at _ 0 e);
       line = line-well (s .line) (every-at _ 1 e);
       lives = lives-well (s .live .banks) (every-at _ 2 e);
-      few = omega (arith, n, beside-short (turnAt p) (take (t .count) (t .records)) (take (t .count) (t .sums)), take-short (t .count) (t .records));
+      few = omega (arith, n, beside-short (turnAt p) (take (t .count) (t .records)) (take (t .count) (t .sums)), length-take (t .count) (t .records));
       wired = turns-wired p (take (t .count) (t .records)) (take (t .count) (t .sums)) (every-at _ 1 (every-at _ 3 e));
       sums = every-at _ 2 (every-at _ 3 e);
       destinations = every-at _ 3 (every-at _ 3 e);
-      held = omega (arith, m, beside-short hushedAt (take (h .count) (h .targets)) (take (h .count) (h .levels)), take-short (h .count) (h .targets));
+      held = omega (arith, m, beside-short hushedAt (take (h .count) (h .targets)) (take (h .count) (h .levels)), length-take (h .count) (h .targets));
       targets = and-right (leb (h .count) 256) _ (every-at _ 4 e);
       flash = every-at _ 5 e;
       opened = o;

@@ -1,6 +1,6 @@
 -- The loop of `most_common`: its invariant, and a law for each way through a turn. Assumes nothing.
-use Prim.Native.Nat.{ℕ, zero, suc, _+_, _≤_, _<_}
-use mathlib.Core.Path.{_≡_, refl, sym, ap, _∙_}
+use Prim.Native.Nat.{ℕ, _+_, _≤_, _<_}
+use mathlib.Core.Path.{_≡_, sym, ap, _∙_}
 use mathlib.Core.List.{List}
 use mathlib.Core.Bool.{true, false}
 use mathlib.Core.Logic.{⊎-elim}
@@ -84,7 +84,3 @@ module _ (l : List ℕ) (i best often : ℕ) (b : Best l i best often) (end : i 
 pub none-common : (l : List ℕ) → length l ≡ 0 → 65535 ≡ mostCommon l
 unfolding mostCommon
 none-common l e = rw (e, first-none (topAt l))
-
-pub lt-one : (n : ℕ) → (n ≡ 0 → ⊥) → 1 ≤ n
-lt-one zero h = absurd (h refl)
-lt-one (suc n) h = omega arith

@@ -3,8 +3,8 @@ use Prim.Native.Nat.{ℕ, zero, suc, _+_, _≤_, _<_}
 use mathlib.Core.Path.{_≡_, refl, _∙_}
 use mathlib.Core.List.{List}
 use mathlib.Core.Bool.{Bool, true, false, not, cond, _||_}
-use mathlib.Core.Logic.{_⊎_, inl, inr, ⊎-elim}
-use native.Mathlib.Nat.{le-antisymm, eq-or-lt-of-le}
+use mathlib.Core.Logic.{⊎-elim}
+use native.Mathlib.Nat.{le-antisymm, eq-or-lt-of-le, pos-of-ne-zero}
 use native.Mathlib.Numerals.{add-one}
 use native.Mathlib.Omega.{arith}
 use lib.Ieee.Scale.{finite}
@@ -40,10 +40,6 @@ accepted s q =
     let w = six (sizeOk s) (fieldsOk s) (orderOk s) (banksOk s) (limitsOk s) (finiteOk s) q in
     record { size = w .0; fields = w .1; order = w .2; banks = w .3; limits = w .4; finite = w .5 }
 
-zero-or-more : (n : ℕ) → (n ≡ 0) ⊎ (1 ≤ n)
-zero-or-more zero = inl refl
-zero-or-more (suc n) = inr (omega arith)
-
 module _ (s : List ℕ) (yes : verdict s ≡ 0) where
   -- at most 2,048 records
   pub few-records : records s ≤ 2048
@@ -51,8 +47,7 @@ module _ (s : List ℕ) (yes : verdict s ≡ 0) where
 
   -- there is a bank
   pub some-bank : 1 ≤ bankCount s
-  some-bank =
-      let h = eqb-false (bankCount s) 0 (not-true (eqb (bankCount s) 0) (accepted s yes .banks)) in ⊎-elim (λ e. absurd (h e)) (λ l. l) (zero-or-more (bankCount s))
+  some-bank = pos-of-ne-zero (eqb-false (bankCount s) 0 (not-true (eqb (bankCount s) 0) (accepted s yes .banks)))
 
   -- at most 128 scenes and 16 transports in one bank or the globals, 16 default buttons of one driver
   pub few-scenes : (b : ℕ) → b < 256 → countOf s 4 b ≤ 128

@@ -2,11 +2,12 @@
 use Prim.Native.Nat.{_≤_, _-_}
 use mathlib.Core.Path.{_≡_, refl, sym, _∙_}
 use mathlib.Core.Logic.{inl, inr}
+use native.Mathlib.Nat.{pos-of-ne-zero}
 use native.Mathlib.Omega.{arith}
 use lib.ListN.{length}
 use borrow.Author.Needs.{needs}
 use Rattle.lookup.specs.Lookup.{seenDrivers}
-use Rattle.lookup.specs.CommonLaws.{Best, best-start, best-keep, best-new, best-done, none-common, lt-one}
+use Rattle.lookup.specs.CommonLaws.{Best, best-start, best-keep, best-new, best-done, none-common}
 use Rattle.base.specs.KeyedLaws as laws
 use lib.Seq.{getD-take, length-take-le}
 use Rattle.lookup.proofs.most_common.Statement.{statement}
@@ -31,7 +32,7 @@ times-in-requires c κs = search needs
 
 loop-holds : tie.Need-loop-holds Inv-loop μ-loop
 loop-holds c = let s = c .before .before .before .args .t1 in
-    (lt-one (s .count) (c .before .before .if1 .left), best-start (seenDrivers s) _ _ (sym (getD-take (s .count) (s .list) 0 0 (lt-one (s .count) (c .before .before .if1 .left)))) (c .times-in .ensures))
+    (pos-of-ne-zero (c .before .before .if1 .left), best-start (seenDrivers s) _ _ (sym (getD-take (s .count) (s .list) 0 0 (pos-of-ne-zero (c .before .before .if1 .left)))) (c .times-in .ensures))
 
 element-copy-out-x : tie.Need-element-copy-out-x Inv-loop μ-loop
 element-copy-out-x c = search needs

@@ -1,4 +1,5 @@
--- A list of numbers below n, none twice, has at most n: what makes room in the line. Stated once, for every key and every n.
+-- What one more, a change and a keeping leave of a list that passes a test or has none twice; and that a list of numbers below n, none twice, has at most n,
+-- which makes room in the line. Each stated once, for every element, every key and every n.
 use mathlib.Core.Path.{_≡_, refl, sym, ap, _∙_, subst}
 use mathlib.Core.Bool.{Bool, true, false, not, true≢false, false≢true}
 use mathlib.Core.List.{List, [], _∷_, _++_}

@@ -34,4 +34,5 @@ pub mod recording;
 pub mod records;
 pub mod session;
 pub mod state;
+pub mod stored;
 pub mod table;

@@ -1,28 +1,19 @@
 //! The stored list of the port's program `records`, and what it must print, are what the oracle's program `records` writes.
 
 use oracle::primitives::{all, expected, read, write, Case};
-
-fn stored(name: &str) -> Vec<u8> {
-    std::fs::read(format!("{}/../crates/records/{name}", env!("CARGO_MANIFEST_DIR"))).expect("a stored file")
-}
+use oracle::stored;
 
 #[test]
 fn the_stored_list_is_of_all_cases() {
     let cases = all();
-    assert!(write(&cases) == stored("stdin"), "after a change of the cases it is to be written anew");
-    assert_eq!(read(&stored("stdin")), Ok(cases));
+    let list = stored::file("records", "stdin");
+    assert!(write(&cases) == list, "after a change of the cases it is to be written anew");
+    assert_eq!(read(&list), Ok(cases));
 }
 
 #[test]
 fn the_stored_lines_are_what_the_rust_says() {
-    let lines = expected(&read(&stored("stdin")).expect("a whole list"));
-    let lines: Vec<&str> = lines.lines().collect();
-    let stored = String::from_utf8(stored("stdout")).expect("text");
-    let stored: Vec<&str> = stored.lines().collect();
-    for (n, (now, then)) in lines.iter().zip(&stored).enumerate() {
-        assert_eq!(now, then, "line {n}");
-    }
-    assert_eq!(lines.len(), stored.len());
+    stored::holds("records", &expected(&read(&stored::file("records", "stdin")).expect("a whole list")));
 }
 
 #[test]

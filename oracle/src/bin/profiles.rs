@@ -6,15 +6,5 @@
 use oracle::examined::{all, expected, read, write};
 
 fn main() -> Result<(), String> {
-    let arguments: Vec<String> = std::env::args().skip(1).collect();
-    let words: Vec<&str> = arguments.iter().map(String::as_str).collect();
-    match words.as_slice() {
-        ["cases", file] => std::fs::write(file, write(&all())).map_err(|e| format!("{file}: {e}")),
-        ["expected", file] => {
-            let list = std::fs::read(file).map_err(|e| format!("{file}: {e}"))?;
-            print!("{}", expected(&read(&list)?));
-            Ok(())
-        }
-        _ => Err("profiles cases FILE or profiles expected FILE".into()),
-    }
+    oracle::stored::write("profiles", || write(&all()), |list| Ok(expected(&read(list)?)))
 }

@@ -2,6 +2,7 @@
 ghost use mathlib.Core.Path.{_≡_};
 ghost use mathlib.Core.List.{_∷_, [], _++_};
 ghost use Prim.Native.Nat.{_+_, _<_, _≤_};
+ghost use lib.Dec.{ltb};
 ghost use lib.ListN.{length, getD};
 ghost use Rattle.profile.specs.Profile.{records, bankCount, verdict};
 ghost use Rattle.lookup.specs.Lookup.{positionsOf, rememberOf, isEntry, entry, ofPart, halfOf, byteOf, bankAt, nameOf, deviceOf, liveOf, recOf, selectOf, bankNamed, destAt, faderOf, encoderPlace, precede, sameDest, scenesOf, position, buttonOf, commandAt, entryAt, transportsOf, transportOf, before, ofKind, place, merged, seenEntries, seenDrivers, times, mostCommon, MayBeDriver};
@@ -136,6 +137,23 @@ fn bank_byte(s: &[u8], bank: u8, o: usize) -> u8
 }
 
 // ── banks ──
+
+// There is a bank of this number. The count ends where it is known.
+pub fn has_bank(profile: &[u8], bank: usize) -> bool
+    ensures { λ r. ⌜ r ≡ ltb bank (bankCount (now (profile .entry))) ⌝ }
+{
+    let n = profile.len() / 32;
+    let mut m: usize = 0;
+    let mut k = 0;
+    while k < n {
+        m += profile::view::one(profile::view::byte(profile, k, 0) == 1);
+        if bank < m {
+            return true;
+        }
+        k += 1;
+    }
+    false
+}
 
 pub fn bank_count(profile: &[u8]) -> usize
     ensures { λ r. ⌜ r ≡ bankCount (now (profile .entry)) ⌝ }

@@ -225,7 +225,7 @@ pub fn shaped(session: Session, profile: &[u8]) -> bool
     ensures { λ r. ⌜ r ≡ wellShaped (now (profile .entry)) session ⌝ }
 {
     let bank = session.bank as usize;
-    if lookup::bank_count(profile) <= bank {
+    if !lookup::has_bank(profile, bank) {
         return false;
     }
     let line = session.line;

@@ -1,6 +1,5 @@
-use mathlib.Core.Path.{sym, ap, _∙_}
-use lib.Dec.{ltb}
-use borrow.Author.Tests.{lt-ltb, le-ltb, not-true, not-false}
+use mathlib.Core.Path.{sym, _∙_}
+use borrow.Author.Tests.{not-true, not-false}
 use Rattle.base.specs.Range.{every}
 use Rattle.definition.specs.Shape.{wellShaped}
 use borrow.Author.Needs.{needs}
@@ -10,12 +9,12 @@ use Rattle.shape.proofs.shaped.Tie as tie
 cast-bank : tie.Need-cast-bank
 cast-bank c = search needs
 
-bank-count-requires : tie.Need-bank-count-requires
-bank-count-requires c κs = search needs
+has-bank-requires : tie.Need-has-bank-requires
+has-bank-requires c κs = search needs
 
 returns : tie.Need-returns
 unfolding wellShaped every
-returns c = rw (ap (ltb _) (sym (c .before .bank-count .ensures)) ∙ le-ltb _ _ (c .if1 .taken))
+returns c = rw (sym (c .before .has-bank .ensures) ∙ not-true (c .before .has-bank .result) (c .if1 .taken))
 
 shaped-line-requires : tie.Need-shaped-line-requires
 shaped-line-requires c κs = search needs
@@ -24,7 +23,7 @@ returns-2 : tie.Need-returns-2
 unfolding wellShaped every
 returns-2 c =
     rw (
-      ap (ltb _) (sym (c .before .before .before .before .bank-count .ensures)) ∙ lt-ltb _ _ (c .before .before .before .if1 .left),
+      sym (c .before .before .before .before .has-bank .ensures) ∙ not-false (c .before .before .before .before .has-bank .result) (c .before .before .before .if1 .left),
       sym (c .before .shaped-line .ensures) ∙ not-true (c .before .shaped-line .result) (c .if2 .taken),
     )
 
@@ -35,7 +34,7 @@ returns-3 : tie.Need-returns-3
 unfolding wellShaped every
 returns-3 c =
     rw (
-      ap (ltb _) (sym (c .before .before .before .before .before .before .before .bank-count .ensures)) ∙ lt-ltb _ _ (c .before .before .before .before .before .before .if1 .left),
+      sym (c .before .before .before .before .before .before .before .has-bank .ensures) ∙ not-false (c .before .before .before .before .before .before .before .has-bank .result) (c .before .before .before .before .before .before .if1 .left),
       sym (c .before .before .before .before .shaped-line .ensures) ∙ not-false (c .before .before .before .before .shaped-line .result) (c .before .before .before .if2 .left),
       sym (c .before .shaped-live .ensures) ∙ not-true (c .before .shaped-live .result) (c .if3 .taken),
     )
@@ -47,7 +46,7 @@ returns-4 : tie.Need-returns-4
 unfolding wellShaped every
 returns-4 c =
     rw (
-      ap (ltb _) (sym (c .before .before .before .before .before .before .before .before .before .before .bank-count .ensures)) ∙ lt-ltb _ _ (c .before .before .before .before .before .before .before .before .before .if1 .left),
+      sym (c .before .before .before .before .before .before .before .before .before .before .has-bank .ensures) ∙ not-false (c .before .before .before .before .before .before .before .before .before .before .has-bank .result) (c .before .before .before .before .before .before .before .before .before .if1 .left),
       sym (c .before .before .before .before .before .before .before .shaped-line .ensures) ∙ not-false (c .before .before .before .before .before .before .before .shaped-line .result) (c .before .before .before .before .before .before .if2 .left),
       sym (c .before .before .before .before .shaped-live .ensures) ∙ not-false (c .before .before .before .before .shaped-live .result) (c .before .before .before .if3 .left),
       sym (c .before .shaped-turns .ensures) ∙ not-true (c .before .shaped-turns .result) (c .if4 .taken),
@@ -60,7 +59,7 @@ returns-5 : tie.Need-returns-5
 unfolding wellShaped every
 returns-5 c =
     rw (
-      ap (ltb _) (sym (c .before .before .before .before .before .before .before .before .before .before .before .before .before .bank-count .ensures)) ∙ lt-ltb _ _ (c .before .before .before .before .before .before .before .before .before .before .before .before .if1 .left),
+      sym (c .before .before .before .before .before .before .before .before .before .before .before .before .before .has-bank .ensures) ∙ not-false (c .before .before .before .before .before .before .before .before .before .before .before .before .before .has-bank .result) (c .before .before .before .before .before .before .before .before .before .before .before .before .if1 .left),
       sym (c .before .before .before .before .before .before .before .before .before .before .shaped-line .ensures) ∙ not-false (c .before .before .before .before .before .before .before .before .before .before .shaped-line .result) (c .before .before .before .before .before .before .before .before .before .if2 .left),
       sym (c .before .before .before .before .before .before .before .shaped-live .ensures) ∙ not-false (c .before .before .before .before .before .before .before .shaped-live .result) (c .before .before .before .before .before .before .if3 .left),
       sym (c .before .before .before .before .shaped-turns .ensures) ∙ not-false (c .before .before .before .before .shaped-turns .result) (c .before .before .before .if4 .left),
@@ -74,7 +73,7 @@ returns-6 : tie.Need-returns-6
 unfolding wellShaped every
 returns-6 c =
     rw (
-      ap (ltb _) (sym (c .before .before .before .before .before .before .before .before .before .before .before .before .before .before .before .before .bank-count .ensures)) ∙ lt-ltb _ _ (c .before .before .before .before .before .before .before .before .before .before .before .before .before .before .before .if1 .left),
+      sym (c .before .before .before .before .before .before .before .before .before .before .before .before .before .before .before .before .has-bank .ensures) ∙ not-false (c .before .before .before .before .before .before .before .before .before .before .before .before .before .before .before .before .has-bank .result) (c .before .before .before .before .before .before .before .before .before .before .before .before .before .before .before .if1 .left),
       sym (c .before .before .before .before .before .before .before .before .before .before .before .before .before .shaped-line .ensures) ∙ not-false (c .before .before .before .before .before .before .before .before .before .before .before .before .before .shaped-line .result) (c .before .before .before .before .before .before .before .before .before .before .before .before .if2 .left),
       sym (c .before .before .before .before .before .before .before .before .before .before .shaped-live .ensures) ∙ not-false (c .before .before .before .before .before .before .before .before .before .before .shaped-live .result) (c .before .before .before .before .before .before .before .before .before .if3 .left),
       sym (c .before .before .before .before .before .before .before .shaped-turns .ensures) ∙ not-false (c .before .before .before .before .before .before .before .shaped-turns .result) (c .before .before .before .before .before .before .if4 .left),
@@ -87,7 +86,7 @@ shaped-spec =
     tie.close
     (tie.spec
     cast-bank
-    bank-count-requires
+    has-bank-requires
     returns
     shaped-line-requires
     returns-2

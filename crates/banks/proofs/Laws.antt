@@ -2,10 +2,11 @@
 use mathlib.Core.Path.{_≡_}
 use mathlib.Core.Bool.{Bool, true, false, not}
 use mathlib.Core.List.{List}
-use Prim.Native.Nat.{ℕ, zero, suc, _+_, _-_, _≤_, _<_}
+use Prim.Native.Nat.{ℕ, zero, suc, _+_, _-_}
 use native.Mathlib.Omega.{arith}
 use lib.Ieee.{Float}
-use borrow.Author.Tests.{not-true, not-false, lt-ltb, le-ltb, lt-leb, eq-eqb, ne-eqb}
+use lib.Dec.{ltb}
+use borrow.Author.Tests.{not-true, not-false, lt-leb, eq-eqb, ne-eqb}
 use Rattle.drivers.specs.Talk.{Talk, Got, got, next}
 use Rattle.drivers.specs.declared.Level.{Level}
 use Rattle.session.specs.declared.Lamps.{Lamps}
@@ -31,13 +32,13 @@ module _ (right : Bool) (banks bank : ℕ) where
   unfolding nextBank
   one-left e n = rw (not-true right e) (left-of bank n)
 
-  pub one-right : not right ≡ false → bank + 1 < banks → bank + 1 ≡ nextBank right banks bank
+  pub one-right : not right ≡ false → ltb (bank + 1) banks ≡ true → bank + 1 ≡ nextBank right banks bank
   unfolding nextBank
-  one-right e h = rw (not-false right e, lt-ltb (bank + 1) banks h)
+  one-right e h = rw (not-false right e, h)
 
-  pub right-end : not right ≡ false → banks ≤ bank + 1 → bank ≡ nextBank right banks bank
+  pub right-end : not right ≡ false → ltb (bank + 1) banks ≡ false → bank ≡ nextBank right banks bank
   unfolding nextBank
-  right-end e h = rw (not-false right e, le-ltb (bank + 1) banks h)
+  right-end e h = rw (not-false right e, h)
 
 -- ── selecting it: home is the last move of the flash's row there ──
 

@@ -125,7 +125,7 @@ pub fn next_bank(profile: &[u8], bank: u8, right: bool) -> u8
         }
         return bank - 1;
     }
-    if (bank as usize) + 1 < lookup::bank_count(profile) {
+    if lookup::has_bank(profile, (bank as usize) + 1) {
         return bank + 1;
     }
     bank

@@ -1,3 +1,4 @@
+use mathlib.Core.Path.{sym, _∙_}
 use Rattle.banks.proofs.Laws.{left-end, one-left, one-right, right-end}
 use borrow.Author.Needs.{needs}
 use Rattle.banks.proofs.next_bank.Statement.{statement}
@@ -12,20 +13,20 @@ sub-result c = search needs
 returns-2 : tie.Need-returns-2
 returns-2 c = one-left _ _ _ (c .before .if1 .taken) (c .if2 .left)
 
-add-if3 : tie.Need-add-if3
-add-if3 c = search needs
+add-has-bank : tie.Need-add-has-bank
+add-has-bank c = search needs
 
-bank-count-requires : tie.Need-bank-count-requires
-bank-count-requires c κs = search needs
+has-bank-requires : tie.Need-has-bank-requires
+has-bank-requires c κs = search needs
 
 add-result : tie.Need-add-result
 add-result c = search needs
 
 returns-3 : tie.Need-returns-3
-returns-3 c = one-right _ _ _ (c .before .before .if1 .left) (rw (← c .before .bank-count .ensures) (c .if3 .taken))
+returns-3 c = one-right _ _ _ (c .before .before .if1 .left) (sym (c .before .has-bank .ensures) ∙ c .if3 .taken)
 
 returns-4 : tie.Need-returns-4
-returns-4 c = right-end _ _ _ (c .before .before .if1 .left) (rw (← c .before .bank-count .ensures) (c .if3 .left))
+returns-4 c = right-end _ _ _ (c .before .before .if1 .left) (sym (c .before .has-bank .ensures) ∙ c .if3 .left)
 
 pub next-bank-spec : {M : Type 1} → statement M
 next-bank-spec =
@@ -34,8 +35,8 @@ next-bank-spec =
     returns
     sub-result
     returns-2
-    add-if3
-    bank-count-requires
+    add-has-bank
+    has-bank-requires
     add-result
     returns-3
     returns-4)

@@ -7,7 +7,7 @@ use native.Mathlib.Omega.{arith}
 use lib.Dec.{eqb, ltb}
 use lib.ListN.{length, length-map, length-append, take}
 use lib.Ieee.{Float}
-use borrow.Author.Tests.{not-true, not-false, ltb-true, lt-ltb, le-leb, lt-leb}
+use borrow.Author.Tests.{not-true, not-false, ltb-true, ltb-false, le-leb, lt-leb}
 use Rattle.base.specs.Choice.{pick}
 use Rattle.base.specs.Keyed.{noTwice}
 use Rattle.profile.specs.Profile.{bankCount}
@@ -109,26 +109,30 @@ module _ (p : List ℕ) (here : Current) (l : Lamps) (n : ℕ) (ts : List ℕ) (
           PressesThere (selectAs (selectOf p (here .bank)) ch) p here there l n ts home now t x (seen (x .io))
       select-command io c f e = ((λ rigAt m s q k j h. rw (e, f, ← se, not-true b c)), count-of _ _ e)
 
-      module _ (banks : ℕ) (be : banks ≡ bankCount p) (c : not b ≡ false) where
-        pub selects-none : (io : Io) → banks ≤ ch → t ≡ seen io → x ≡ plain io (here .bank) l n →
+      -- y is whether the profile has a bank of the button's number
+      module _ (y : Bool) (ye : y ≡ ltb ch (bankCount p)) (c : not b ≡ false) where
+        pub selects-none : (io : Io) → not y ≡ true → t ≡ seen io → x ≡ plain io (here .bank) l n →
             PressesThere (selectAs (selectOf p (here .bank)) ch) p here there l n ts home now t x (seen (x .io))
         unfolding next selectBank
-        selects-none io d f e = ((λ rigAt m s q k j h. rw (e, ← se, not-false b c, ← be, le-leb banks ch d, f)), count-of _ _ e)
+        selects-none io d f e =
+            let past : bankCount p ≤ ch = ltb-false ch (bankCount p) (sym ye ∙ not-true y d) in
+            ((λ rigAt m s q k j h. rw (e, ← se, not-false b c, le-leb (bankCount p) ch past, f)), count-of _ _ e)
 
         -- the bank that the code is handed is the one of the button
-        reached : ch < banks → there .bank ≡ selectedBy p (here .bank) ch → there .bank ≡ ch
+        reached : not y ≡ false → there .bank ≡ selectedBy p (here .bank) ch → there .bank ≡ ch
         unfolding selectedBy
-        reached d to = to ∙ rw (← se, not-false b c, ← be, lt-ltb ch banks d)
+        reached d to = to ∙ rw (← se, not-false b c, ← ye, not-false y d)
 
-        pub selects-bank : (a : Selected) → ch < banks → there .bank ≡ selectedBy p (here .bank) ch →
+        pub selects-bank : (a : Selected) → not y ≡ false → there .bank ≡ selectedBy p (here .bank) ch →
             Selects (rigIn p there) l ts home now t (got (seenSelected a) (seen (a .io))) → x ≡ banked a n →
             PressesThere (selectAs (selectOf p (here .bank)) ch) p here there l n ts home now t x (seen (x .io))
         unfolding next selectBank selecting
         selects-bank a d to f e = (
           (λ rigAt m s q k j h. let r : rigAt ch ≡ rigIn p there = subst (λ i. rigAt i ≡ rigIn p there) (reached d to) j in
-              let g : selectBank rigAt banks (here .bank) ch ts m now l t ≡ got (seenSelected a) (seen (a .io)) =
-              rw (lt-leb banks ch d, r, ← reached d to) (sym (f m h)) in
-              rw (e, ← se, not-false b c, ← be, q, g)),
+              let low : ch < bankCount p = ltb-true ch (bankCount p) (sym ye ∙ not-false y d) in
+              let g : selectBank rigAt (bankCount p) (here .bank) ch ts m now l t ≡ got (seenSelected a) (seen (a .io)) =
+              rw (lt-leb (bankCount p) ch low, r, ← reached d to) (sym (f m h)) in
+              rw (e, ← se, not-false b c, q, g)),
           count-of _ _ e,
         )
 

@@ -150,7 +150,7 @@ fn select(
         let v = commands::run_command(answers, calls, messages, io, profile, here, 3);
         return unmoved(v, here.bank, lamps, hushed);
     }
-    if lookup::bank_count(profile) <= channel as usize {
+    if !lookup::has_bank(profile, channel as usize) {
         return unmoved(io, here.bank, lamps, hushed);
     }
     let s = banks::select_bank(
@@ -323,7 +323,7 @@ fn channel_of(b: Button) -> u8
 fn selected_by(profile: &[u8], bank: u8, channel: u8) -> u8
     ensures { λ r. ⌜ r ≡ selectedBy (now (profile .entry)) bank channel ⌝ }
 {
-    if lookup::select_is_bank(profile, bank) & ((channel as usize) < lookup::bank_count(profile)) {
+    if lookup::select_is_bank(profile, bank) & lookup::has_bank(profile, channel as usize) {
         return channel;
     }
     bank

@@ -22,6 +22,7 @@ use Rattle.lookup.specs.Gather.{gather}
 use Rattle.lookup.specs.GatherLaws.{gather-length}
 use Rattle.lookup.specs.Lookup.{entry, ofPart, halfOf, controlOf, foundAt, entryAt, transportsOf}
 use Rattle.lookup.specs.LookupLaws.{entry-is}
+use Rattle.lookup.specs.Known.{transports-whole}
 use Rattle.lookup.specs.TransportLaws.{own-few}
 use Rattle.lookup.specs.View.{viewOf}
 use Rattle.lookup.specs.declared.Entry.{Entry}
@@ -68,8 +69,7 @@ module _ (s : List ℕ) (yes : verdict s ≡ 0) where
       go false e = no-entry
 
   transports-may : (part : ℕ) → MayAll IsDriver (transportsOf s part)
-  unfolding transportsOf
-  transports-may part = gathered part (records s) (omega arith)
+  transports-may part = rw (transports-whole s yes part) (gathered part (records s) (omega arith))
 
   -- a part that no record names has none
   far : (part : ℕ) → 256 ≤ part → count (records s) (ofPart s 5 part) ≤ 16
@@ -83,8 +83,7 @@ module _ (s : List ℕ) (yes : verdict s ≡ 0) where
       (eq-zero-or-pos (count (records s) (ofPart s 5 part)))
 
   few : (part : ℕ) → length (transportsOf s part) ≤ 16
-  unfolding transportsOf
-  few part = rw gather-length (go (ltb part 256) refl)
+  few part = rw (transports-whole s yes part, gather-length) (go (ltb part 256) refl)
     where
       go : (b : Bool) → ltb part 256 ≡ b → count (records s) (ofPart s 5 part) ≤ 16
       go true e = own-few s part (records s) yes (ltb-true part 256 e) (omega arith)

@@ -19,6 +19,7 @@ use Rattle.base.specs.declared.Place.{Place}
 use Rattle.base.specs.declared.Place.the-variants.{At, Nothing}
 use Rattle.profile.specs.RangeMore.{count-lt}
 use Rattle.lookup.specs.Gather.{gather}
+use Rattle.lookup.specs.FirstMore.{not-behind}
 
 -- what is found in such a list, by the number that it came from
 abbrev pub from : {A : Type 0} → (ℕ → A) → Place → Option A
@@ -47,8 +48,17 @@ module _ {A : Type 0} (p : ℕ → Bool) (g : ℕ → A) where
   unfolding gather
   gather-no i e = rw (add-one, e, append-nil)
 
-  pub gather-end : (i n : ℕ) → i ≤ n → n ≤ i → gather i p g ≡ gather n p g
-  gather-end i n a b = ap (λ (m : ℕ). gather m p g) (le-antisymm a b)
+  -- where all below n of which p holds are below m, the list made up to m is the whole
+  pub gather-short : (m n : ℕ) → m ≤ n → ((k : ℕ) → k < n → p k ≡ true → k < m) → gather m p g ≡ gather n p g
+  unfolding gather
+  gather-short m zero l h = rw (le-antisymm l (omega arith))
+  gather-short m (suc n) l h =
+      ⊎-elim
+      (λ e. rw e)
+      (λ b.
+      gather-short m n (le-of-suc-le-suc b) (λ k c. h k (omega arith))
+      ∙ rw (not-behind (p n) m n (h n (omega arith)) (omega arith)) (sym (append-nil (gather n p g))))
+      (eq-or-lt-of-le l)
 
   -- there are as many as are counted
   pub gather-length : (n : ℕ) → length (gather n p g) ≡ count n p

@@ -8,17 +8,19 @@ use native.Mathlib.Omega.{arith}
 use lib.Dec.{leb}
 use lib.Ieee.Scale.{finite}
 use lib.ListN.{getD}
-use borrow.Author.Tests.{le-leb, eqb-true, eq-eqb}
+use borrow.Author.Tests.{le-leb, le-ltb, eqb-true, eq-eqb}
 use Rattle.base.specs.Choice.{pick}
 use Rattle.base.specs.Range.{every}
-use Rattle.base.specs.RangeLaws.{and-left}
+use Rattle.base.specs.RangeLaws.{and-left, every-at}
+use Rattle.base.specs.First.{first}
+use Rattle.base.specs.FirstLaws.{until-behind}
 use Rattle.base.specs.Keyed.{find, allOf}
 use Rattle.base.specs.Pigeon.{all-append, all-change}
 use Rattle.base.specs.declared.Place.{Place}
 use Rattle.base.specs.declared.Place.the-variants.{At, Nothing}
 use Rattle.profile.specs.Profile.{records, byteAt, halfAt, bankCount, control, verdict}
 use Rattle.profile.specs.Fields.{control-at, transport-at, bank-at}
-use Rattle.profile.specs.Accepted.{accepted, ends-at, bank-there}
+use Rattle.profile.specs.Accepted.{accepted, ends-at, bank-there, kinds-rise}
 use Rattle.lookup.specs.declared.Destination.{Destination}
 use Rattle.lookup.specs.declared.Command.{Command}
 use Rattle.lookup.specs.declared.Found.{Found}
@@ -27,11 +29,41 @@ use Rattle.lookup.specs.declared.Bound.{Bound}
 use Rattle.lookup.specs.declared.Bound.the-variants as bound
 use Rattle.lookup.specs.declared.Entry.{Entry}
 use Rattle.lookup.specs.Gather.{gather}
-use Rattle.lookup.specs.GatherLaws.{from}
-use Rattle.lookup.specs.Lookup.{entry, ofPart, destAt, foundAt, controlOf, entryAt, transportsOf, boundBy, transportOf, ofKind, place, merged, halfOf, deviceOf, nameOf, bankAt, isEntry}
-use Rattle.lookup.specs.FirstMore.{first-some}
-use Rattle.lookup.specs.LookupLaws.{entry-is}
+use Rattle.lookup.specs.GatherLaws.{from, gather-short}
+use Rattle.lookup.specs.Lookup.{isPast, reach, entry, ofPart, destAt, foundAt, controlOf, scenesOf, entryAt, transportsOf, boundBy, transportOf, ofKind, place, merged, halfOf, deviceOf, nameOf, bankAt, isEntry}
+use Rattle.lookup.specs.FirstMore.{first-some, first-short}
+use Rattle.lookup.specs.LookupLaws.{reach-le, entry-is}
 use Rattle.lookup.specs.TransportLaws.{transport-is}
+
+-- ── no lookup ends too early ──
+
+module _ (s : List ℕ) (ok : verdict s ≡ 0) where
+  -- "Kinds never fall through the file": every record of a kind comes before the first of a higher one
+  pub in-reach : (kind k : ℕ) → k < records s → byteAt s k 0 ≡ kind → k < reach s kind
+  unfolding reach
+  in-reach kind k l e =
+      until-behind (isPast s kind) (records s) k l (λ j h. le-ltb kind (byteAt s j 0) (omega (arith, e, kinds-rise s ok j k h l)))
+
+  -- so what is found is the first such record of the whole file
+  pub entry-whole : (kind part number : ℕ) → entry s kind part number ≡ first (records s) (isEntry s kind part number)
+  unfolding entry
+  entry-whole kind part number =
+      first-short (isEntry s kind part number) (reach s kind) (records s) (reach-le s kind)
+      (λ k l e. in-reach kind k l (eqb-true (byteAt s k 0) kind (every-at _ 0 e)))
+
+  -- a bank's scenes are all that the file has
+  pub scenes-whole : (b : ℕ) → scenesOf s b ≡ gather (records s) (ofPart s 4 b) (λ k. halfAt s k 4)
+  unfolding scenesOf
+  scenes-whole b =
+      gather-short (ofPart s 4 b) (λ k. halfAt s k 4) (reach s 4) (records s) (reach-le s 4)
+      (λ k l e. in-reach 4 k l (eqb-true (byteAt s k 0) 4 (and-left _ _ e)))
+
+  -- and so are a part's transport buttons
+  pub transports-whole : (part : ℕ) → transportsOf s part ≡ gather (records s) (ofPart s 5 part) (entryAt s)
+  unfolding transportsOf
+  transports-whole part =
+      gather-short (ofPart s 5 part) (entryAt s) (reach s 5) (records s) (reach-le s 5)
+      (λ k l e. in-reach 5 k l (eqb-true (byteAt s k 0) 5 (and-left _ _ e)))
 
 -- a driver's field of two bytes is its low byte
 low-byte : (a b n : ℕ) → n ≡ a + 256 * b → n ≤ 15 → (a ≡ n) × (a ≤ 15)
@@ -66,12 +98,14 @@ module _ (s : List ℕ) (ok : verdict s ≡ 0) where
 
   -- every bank below the number of banks has its record
   pub bank-found : (b : ℕ) → b < bankCount s → (k : ℕ) × (bankAt s b ≡ At k)
-  unfolding entry every
+  unfolding every
   bank-found b l =
       let w = bank-there s ok b l in
       let n = bank-at s (accepted s ok .fields) (w .0) (w .1) (w .2) .number in
+      let f =
       first-some (isEntry s 1 b 0) (records s) (w .0) (w .1)
-      (rw (eq-eqb (byteAt s (w .0) 0) 1 (w .2), eq-eqb (byteAt s (w .0) 1) b (w .3), eq-eqb (byteAt s (w .0) 2) 0 n))
+      (rw (eq-eqb (byteAt s (w .0) 0) 1 (w .2), eq-eqb (byteAt s (w .0) 1) b (w .3), eq-eqb (byteAt s (w .0) 2) 0 n)) in
+      (f .0, entry-whole s ok 1 b 0 ∙ f .1)
 
   -- and a name
   pub known-name : (b : ℕ) → b < bankCount s → nameOf s b < 65535
@@ -118,8 +152,7 @@ module _ (s : List ℕ) (ok : verdict s ≡ 0) where
       go false e = refl
 
   low-own : (part : ℕ) → allOf lowDriver (transportsOf s part) ≡ true
-  unfolding transportsOf
-  low-own part = low-gathered part (records s) (omega arith)
+  low-own part = rw (transports-whole s ok part) (low-gathered part (records s) (omega arith))
 
 low-merged : (g own : List Entry) → allOf lowDriver g ≡ true → allOf lowDriver own ≡ true → allOf lowDriver (merged g own) ≡ true
 unfolding merged allOf place

@@ -5,10 +5,10 @@ use mathlib.Core.Logic.{_⊎_}
 use mathlib.Core.Bool.{Bool, _&&_, Bool·beq}
 use mathlib.Core.List.{List, [], _∷_}
 use mathlib.Core.Option.{Option, none, some}
-use lib.Dec.{eqb, leb}
+use lib.Dec.{eqb, leb, ltb}
 use lib.ListN.{length, getD, take}
 use Rattle.base.specs.Range.{all, count, every}
-use Rattle.base.specs.First.{first}
+use Rattle.base.specs.First.{first, until}
 use Rattle.base.specs.Keyed.{find, change}
 use Rattle.base.specs.declared.Place.{Place}
 use Rattle.base.specs.declared.Place.the-variants.{At, Nothing}
@@ -31,9 +31,18 @@ use Rattle.lookup.specs.Gather.{gather}
 abbrev pub isEntry : List ℕ → ℕ → ℕ → ℕ → ℕ → Bool
 isEntry s kind part number k = every (isKind s kind k ∷ eqb (byteAt s k 1) part ∷ eqb (byteAt s k 2) number ∷ [])
 
+-- record k is of a higher kind
+abbrev pub isPast : List ℕ → ℕ → ℕ → Bool
+isPast s kind k = ltb kind (byteAt s k 0)
+
+-- how many records come before the first of a higher kind: "Kinds never fall through the file", so in an accepted profile all of the kind are among
+-- them (`Known.in-reach`), and no lookup goes on behind them
+unfoldable pub reach : List ℕ → ℕ → ℕ
+reach s kind = until (records s) (isPast s kind)
+
 -- the first such record
 unfoldable pub entry : List ℕ → ℕ → ℕ → ℕ → Place
-entry s kind part number = first (records s) (isEntry s kind part number)
+entry s kind part number = first (reach s kind) (isEntry s kind part number)
 
 -- record k is of the kind and belongs to the part
 abbrev pub ofPart : List ℕ → ℕ → ℕ → ℕ → Bool
@@ -144,7 +153,7 @@ sameDest a b =
 
 -- the names of the bank's scenes, in file order
 unfoldable pub scenesOf : List ℕ → ℕ → List ℕ
-scenesOf s b = gather (records s) (ofPart s 4 b) (λ k. halfAt s k 4)
+scenesOf s b = gather (reach s 4) (ofPart s 4 b) (λ k. halfAt s k 4)
 
 -- the first position of a name in a list of names
 unfoldable pub position : ℕ → List ℕ → Place
@@ -161,7 +170,7 @@ entryAt s k = record { kind = byteAt s k 2; command = commandAt s k }
 
 -- the part's transport buttons, in file order
 unfoldable pub transportsOf : List ℕ → ℕ → List Entry
-transportsOf s part = gather (records s) (ofPart s 5 part) (entryAt s)
+transportsOf s part = gather (reach s 5) (ofPart s 5 part) (entryAt s)
 
 abbrev pub ofKind : ℕ → Entry → Bool
 ofKind kind e = eqb (e .kind) kind

@@ -1,11 +1,13 @@
--- What is known of a record that was looked up. Assumes nothing.
-use Prim.Native.Nat.{ℕ, _<_}
+-- How far a lookup goes, and what is known of a record that it finds. Assumes nothing.
+use Prim.Native.Nat.{ℕ, _≤_, _<_}
 use mathlib.Core.Path.{_≡_, refl, sym, _∙_}
-use mathlib.Core.Bool.{true}
+use mathlib.Core.Bool.{true, false}
 use mathlib.Core.List.{List}
+use native.Mathlib.Nat.{lt-of-lt-of-le}
 use borrow.Author.Tests.{eqb-true, eq-eqb}
 use Rattle.base.specs.RangeLaws.{every-at}
-use Rattle.base.specs.FirstLaws.{first-at}
+use Rattle.base.specs.First.{first}
+use Rattle.base.specs.FirstLaws.{first-at, first-hit, until-le, until-here, until-done, until-on}
 use Rattle.base.specs.declared.Place.{Place}
 use Rattle.base.specs.declared.Place.the-variants.{At, Nothing}
 use Rattle.profile.specs.Profile.{records, byteAt, isKind}
@@ -15,7 +17,40 @@ use Rattle.lookup.specs.declared.Found.{Found}
 use Rattle.lookup.specs.declared.Found.the-variants as found
 use Rattle.lookup.specs.declared.Bound.{Bound}
 use Rattle.lookup.specs.declared.Bound.the-variants as bound
-use Rattle.lookup.specs.Lookup.{isEntry, entry, foundAt, controlOf, encoderOf, precede, orPlace, encoderPlace, before}
+use Rattle.lookup.specs.Lookup.{isEntry, isPast, reach, entry, foundAt, controlOf, encoderOf, precede, orPlace, encoderPlace, before}
+
+-- ── how far a lookup goes ──
+
+-- no further than the file
+pub reach-le : (s : List ℕ) (kind : ℕ) → reach s kind ≤ records s
+unfolding reach
+reach-le s kind = until-le (isPast s kind) (records s)
+
+-- a loop that has met no record of a higher kind before k: record k is one, the file ends at k, or the loop goes on behind k
+module _ (s : List ℕ) (kind k : ℕ) (none : first k (isPast s kind) ≡ Nothing) where
+  pub reach-here : isPast s kind k ≡ true → k < records s → reach s kind ≡ k
+  unfolding reach
+  reach-here = until-here (isPast s kind) (records s) k none
+
+  pub reach-end : k ≤ records s → records s ≤ k → reach s kind ≡ k
+  unfolding reach
+  reach-end a b = until-done (isPast s kind) k (records s) a b none
+
+  pub reach-on : isPast s kind k ≡ false → k < records s → k < reach s kind
+  unfolding reach
+  reach-on q l = until-on (isPast s kind) (records s) k l none q
+
+-- `find`: the record at which it stands is the one, or there is none
+module _ (s : List ℕ) (kind part number k : ℕ) (none : first k (isEntry s kind part number) ≡ Nothing) where
+  pub entry-hit : k < reach s kind → isEntry s kind part number k ≡ true → At k ≡ entry s kind part number
+  unfolding entry
+  entry-hit l e = first-hit (isEntry s kind part number) (reach s kind) k none e l
+
+  pub entry-none : reach s kind ≡ k → Nothing ≡ entry s kind part number
+  unfolding entry
+  entry-none e = rw e (sym none)
+
+-- ── what is found ──
 
 -- a record that is found is in the file, and it is what was looked for
 pub record Is (s : List ℕ) (kind part number k : ℕ) : Type 0 where
@@ -27,9 +62,9 @@ pub record Is (s : List ℕ) (kind part number k : ℕ) : Type 0 where
 pub entry-is : (s : List ℕ) (kind part number k : ℕ) → entry s kind part number ≡ At k → Is s kind part number k
 unfolding entry
 entry-is s kind part number k e =
-    let w = first-at (isEntry s kind part number) (records s) k e in
+    let w = first-at (isEntry s kind part number) (reach s kind) k e in
     record {
-      in-file = w .0;
+      in-file = lt-of-lt-of-le (w .0) (reach-le s kind);
       kind-is = eqb-true (byteAt s k 0) kind (every-at _ 0 (w .1));
       part-is = eqb-true (byteAt s k 1) part (every-at _ 1 (w .1));
       number-is = eqb-true (byteAt s k 2) number (every-at _ 2 (w .1));

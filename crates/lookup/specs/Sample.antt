@@ -6,11 +6,11 @@ use mathlib.Core.Bool.{true}
 use lib.Ieee.{ofBits, binary64}
 use lib.ListN.{replicate}
 use Rattle.base.specs.Range.{all, any, count, every}
-use Rattle.base.specs.First.{first}
+use Rattle.base.specs.First.{first, until}
 use Rattle.base.specs.Words.{le64}
 use Rattle.profile.specs.Profile.{verdict, fieldsOk, recordOk, okAs, kindCount, orderOk, orderedAt, control, onceEach, limitsOk, atMost, countOf, finiteOk, endsFinite}
 use Rattle.lookup.specs.declared.Found.the-variants as found
-use Rattle.lookup.specs.Lookup.{entry, controlOf}
+use Rattle.lookup.specs.Lookup.{reach, entry, controlOf}
 use Rattle.lookup.specs.View.{viewOf}
 
 zeros : ℕ → List ℕ
@@ -49,9 +49,9 @@ declined-endless = refl
 -- what is looked up: bank 0's fader 1, and no other
 bound : viewOf profile .here 0 .fader 1
     ≡ found.To (record { driver = 3; target = 7; label = 0; group = 0; mute = 65535; takeover = true; low = ofBits binary64 0; high = ofBits binary64 0x3ff0_0000_0000_0000 })
-unfolding zeros settings bank fader profile every first entry controlOf le64
+unfolding zeros settings bank fader profile every first until reach entry controlOf le64
 bound = refl
 
 unbound : viewOf profile .here 0 .fader 2 ≡ found.Nothing
-unfolding zeros settings bank fader profile every first entry controlOf
+unfolding zeros settings bank fader profile every first until reach entry controlOf
 unbound = refl

@@ -11,9 +11,9 @@ use Rattle.profile.specs.Profile.{records, countOf, verdict}
 use Rattle.profile.specs.Accepted.{few-transports}
 use Rattle.lookup.specs.declared.Entry.{Entry}
 use Rattle.lookup.specs.Gather.{gather}
-use Rattle.lookup.specs.GatherLaws.{from, gather-none, gather-yes, gather-no, gather-end, gather-find}
+use Rattle.lookup.specs.GatherLaws.{from, gather-none, gather-yes, gather-no, gather-find}
 use Rattle.lookup.specs.FirstMore.{first-cong}
-use Rattle.lookup.specs.Lookup.{isEntry, entry, ofPart, entryAt, transportsOf, ofKind, boundBy, transportOf, place, merged}
+use Rattle.lookup.specs.Lookup.{isEntry, reach, entry, ofPart, entryAt, transportsOf, ofKind, boundBy, transportOf, place, merged}
 
 -- what an array of entries is made of
 abbrev pub noEntry : Entry
@@ -29,8 +29,8 @@ pub transport-is : (s : List ℕ) (part kind : ℕ) → boundBy (from (entryAt s
 unfolding entry transportOf transportsOf
 transport-is s part kind =
     ap boundBy
-    (ap (from (entryAt s)) (first-cong (isEntry s 5 part kind) (λ k. ofPart s 5 part k && ofKind kind (entryAt s k)) (records s) (λ k l. and-three _ _ _))
-    ∙ gather-find (ofPart s 5 part) (entryAt s) (ofKind kind) (records s))
+    (ap (from (entryAt s)) (first-cong (isEntry s 5 part kind) (λ k. ofPart s 5 part k && ofKind kind (entryAt s k)) (reach s 5) (λ k l. and-three _ _ _))
+    ∙ gather-find (ofPart s 5 part) (entryAt s) (ofKind kind) (reach s 5))
 
 module _ (s : List ℕ) (part : ℕ) where
   -- making the list: it is l so far
@@ -41,9 +41,9 @@ module _ (s : List ℕ) (part : ℕ) where
     pub own-no : ofPart s 5 part k ≡ false → l ≡ gather (k + 1) (ofPart s 5 part) (entryAt s)
     own-no y = is ∙ sym (gather-no (ofPart s 5 part) (entryAt s) k y)
 
-    pub own-done : k ≤ records s → records s ≤ k → l ≡ transportsOf s part
+    pub own-done : reach s 5 ≡ k → l ≡ transportsOf s part
     unfolding transportsOf
-    own-done a b = is ∙ gather-end (ofPart s 5 part) (entryAt s) k (records s) a b
+    own-done e = is ∙ rw e
 
   -- an accepted profile has at most 16 of one part
   pub own-few : (k : ℕ) → verdict s ≡ 0 → part < 256 → k ≤ records s → count k (ofPart s 5 part) ≤ 16
@@ -64,9 +64,9 @@ module _ (s : List ℕ) (k : ℕ) (own l : List Entry) (is : l ≡ merged (gathe
   pub merged-no : ofPart s 5 255 k ≡ false → l ≡ merged (gather (k + 1) (ofPart s 5 255) (entryAt s)) own
   merged-no y = is ∙ rw (gather-no (ofPart s 5 255) (entryAt s) k y)
 
-  pub merged-done : k ≤ records s → records s ≤ k → l ≡ merged (transportsOf s 255) own
+  pub merged-done : reach s 5 ≡ k → l ≡ merged (transportsOf s 255) own
   unfolding transportsOf
-  merged-done a b = is ∙ rw (gather-end (ofPart s 5 255) (entryAt s) k (records s) a b)
+  merged-done e = is ∙ rw e
 
 pub merged-none : (s : List ℕ) (own l : List Entry) → l ≡ own → l ≡ merged (gather 0 (ofPart s 5 255) (entryAt s)) own
 unfolding merged

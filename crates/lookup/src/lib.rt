@@ -5,7 +5,7 @@ ghost use Prim.Native.Nat.{_+_, _<_, _≤_};
 ghost use lib.Dec.{ltb};
 ghost use lib.ListN.{length, getD};
 ghost use Rattle.profile.specs.Profile.{records, bankCount, verdict};
-ghost use Rattle.lookup.specs.Lookup.{positionsOf, rememberOf, isEntry, entry, ofPart, halfOf, byteOf, bankAt, nameOf, deviceOf, liveOf, recOf, selectOf, bankNamed, destAt, faderOf, encoderPlace, precede, sameDest, scenesOf, position, buttonOf, commandAt, entryAt, transportsOf, transportOf, before, ofKind, place, merged, seenEntries, seenDrivers, times, mostCommon, MayBeDriver};
+ghost use Rattle.lookup.specs.Lookup.{positionsOf, rememberOf, isEntry, isPast, entry, ofPart, halfOf, byteOf, bankAt, nameOf, deviceOf, liveOf, recOf, selectOf, bankNamed, destAt, faderOf, encoderPlace, precede, sameDest, scenesOf, position, buttonOf, commandAt, entryAt, transportsOf, transportOf, before, ofKind, place, merged, seenEntries, seenDrivers, times, mostCommon, MayBeDriver};
 ghost use Rattle.base.specs.Keyed.{at};
 
 // The name number of what is not there.
@@ -92,6 +92,14 @@ fn is_entry(s: &[u8], kind: u8, part: u8, number: u8, k: usize) -> bool
         & ((profile::view::byte(s, k, 1) == part) & (profile::view::byte(s, k, 2) == number))
 }
 
+// The record is of a higher kind: none of the kind comes behind it.
+fn is_past(s: &[u8], kind: u8, k: usize) -> bool
+    requires { ⌜ k < records (now s) ⌝ }
+    ensures { λ r. ⌜ r ≡ isPast (now (s .entry)) kind k ⌝ }
+{
+    kind < profile::view::byte(s, k, 0)
+}
+
 // The first record of the kind, the part and the number.
 fn find(s: &[u8], kind: u8, part: u8, number: u8) -> base::Place
     ensures { λ r. ⌜ r ≡ entry (now (s .entry)) kind part number ⌝ }
@@ -99,6 +107,9 @@ fn find(s: &[u8], kind: u8, part: u8, number: u8) -> base::Place
     let n = s.len() / 32;
     let mut k = 0;
     while k < n {
+        if is_past(s, kind, k) {
+            return base::Place::Nothing;
+        }
         if is_entry(s, kind, part, number, k) {
             return base::Place::At(k);
         }
@@ -270,6 +281,9 @@ pub fn scene_count(profile: &[u8], bank: u8) -> usize
     let mut m: usize = 0;
     let mut k = 0;
     while k < n {
+        if is_past(profile, 4, k) {
+            return m;
+        }
         m += profile::view::one(of_part(profile, 4, bank, k));
         k += 1;
     }
@@ -285,6 +299,9 @@ pub fn scene_name(profile: &[u8], bank: u8, n: usize) -> u16
     let mut k = 0;
     while k < end {
         let i = k;
+        if is_past(profile, 4, i) {
+            return ABSENT;
+        }
         k += 1;
         if of_part(profile, 4, bank, i) {
             if m == n {
@@ -305,6 +322,9 @@ pub fn scene_position(profile: &[u8], bank: u8, name: u16) -> base::Place
     let mut k = 0;
     while k < end {
         let i = k;
+        if is_past(profile, 4, i) {
+            return base::Place::Nothing;
+        }
         k += 1;
         if of_part(profile, 4, bank, i) {
             if profile::view::half(profile, i, 4) == name {
@@ -459,6 +479,9 @@ fn own_transports(profile: &[u8], bank: u8) -> Entries
     let mut k = 0;
     while k < end {
         let i = k;
+        if is_past(profile, 5, i) {
+            return entries;
+        }
         k += 1;
         if of_part(profile, 5, bank, i) {
             entries = push(entries, entry_at(profile, i));
@@ -477,6 +500,9 @@ pub fn transports(profile: &[u8], bank: u8) -> Entries
     let mut k = 0;
     while k < end {
         let i = k;
+        if is_past(profile, 5, i) {
+            return entries;
+        }
         k += 1;
         if of_part(profile, 5, GLOBALS, i) {
             entries = put(entries, entry_at(profile, i));

@@ -21,6 +21,7 @@ use Rattle.profile.specs.Profile.{countOf, verdict}
 use Rattle.profile.specs.Accepted.{few-scenes}
 use Rattle.lookup.specs.GatherLaws.{gather-length}
 use Rattle.lookup.specs.Lookup.{scenesOf, position}
+use Rattle.lookup.specs.Known.{scenes-whole}
 use Rattle.drivers.specs.Talk.{Talk, Got, got, next, currentOf, loadOf, scenesOf as askScenes}
 use Rattle.drivers.specs.Shown.{seenNames, listed, shown}
 use Rattle.drivers.specs.declared.Io.{Io}
@@ -77,8 +78,8 @@ module _ (s : Names) (few : s .count ≤ 128) (long : length (s .list) ≡ 128) 
 
 -- at most 128 of a bank of an accepted profile
 own-few : (p : List ℕ) → verdict p ≡ 0 → (b : ℕ) → b < 256 → length (scenesOf p b) ≤ 128
-unfolding scenesOf countOf
-own-few p ok b h = rw (gather-length) (few-scenes p ok b h)
+unfolding countOf
+own-few p ok b h = rw (scenes-whole p ok b, gather-length) (few-scenes p ok b h)
 
 module _ (p : List ℕ) (c : Current) (o : Offer) where
   -- the profile has a list

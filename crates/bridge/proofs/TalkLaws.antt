@@ -278,15 +278,14 @@ behind-act p s e here t rig = at (e .what)
     at input.FlashBank = refl
 
 module _ (p : List ℕ) (s : Session) (e : Timed) (answers : List ℕ) (here : Current) (rig : rigNow (viewOf p) (seen p s) ≡ rigIn p here) (ticks : Bool)
-    (t₀ t₁ u : Talk) (fresh : t₀ ≡ start answers (s .opened)) (ticks-is : ticks ≡ isTick (e .what))
-    (drained-so : t₁ ≡ drainIf ticks (rigIn p here) (seenLine (s .line)) (seenTurns p (s .turns)) t₀) (due : Bool) (left : declared.Left) (s₁ : List Hushed)
-    (ran : got (leftOf (seen p s) (isTick (e .what)) due (e .time) left s₁) u ≡ behind (e .what) (viewOf p) (seen p s) (e .time) t₁) where
+    (t₀ u : Talk) (fresh : t₀ ≡ start answers (s .opened)) (ticks-is : ticks ≡ isTick (e .what)) (due : Bool) (left : declared.Left) (s₁ : List Hushed)
+    (ran : got (leftOf (seen p s) (isTick (e .what)) due (e .time) left s₁) u
+    ≡ behind (e .what) (viewOf p) (seen p s) (e .time) (drainIf ticks (rigIn p here) (seenLine (s .line)) (seenTurns p (s .turns)) t₀)) where
   -- what was left and the line after it are the definition's
   pub talk-is : got (leftOf (seen p s) (isTick (e .what)) due (e .time) left s₁) u ≡ actOf p s e answers
   unfolding actOf
   talk-is =
       ran
-      ∙ ap (behind (e .what) (viewOf p) (seen p s) (e .time)) drained-so
       ∙ ap (λ (b : Bool). behind (e .what) (viewOf p) (seen p s) (e .time) (drainIf b (rigIn p here) (seenLine (s .line)) (seenTurns p (s .turns)) t₀)) ticks-is
       ∙ behind-act p s e here t₀ rig
       ∙ ap (act (e .what) (viewOf p) (seen p s) (e .time)) fresh

@@ -13,6 +13,7 @@ use event::Read;
 use event::Timed;
 use rig::Current;
 use session::Flash;
+use session::Lamps;
 use session::Line;
 use session::Live;
 use session::Moves;
@@ -23,21 +24,24 @@ use which::Hand;
 ghost use mathlib.Core.Path.{_≡_};
 ghost use mathlib.Core.Bool.{true, false};
 ghost use Prim.Native.Nat.{_+_, _*_, _%_, _≤_, _<_};
+ghost use lib.Dec.{eqb};
 ghost use lib.ListN.{length, take};
 ghost use Rattle.base.specs.Choice.{pick};
-ghost use Rattle.base.specs.Keyed.{allOf};
-ghost use Rattle.profile.specs.Profile.{verdict};
+ghost use Rattle.base.specs.Keyed.{allOf, noTwice};
+ghost use Rattle.profile.specs.Profile.{verdict, bankCount};
 ghost use Rattle.lookup.specs.Lookup.{rememberOf};
 ghost use Rattle.lookup.specs.View.{viewOf};
 ghost use Rattle.drivers.specs.Shown.{shown};
-ghost use Rattle.session.specs.Session.{lastMove, seenLine, seenTurns, isEncoder, hushedUpTo};
+ghost use Rattle.session.specs.Session.{lastMove, seenLine, seenTurns, isEncoder, hushedUpTo, targetsOf};
 ghost use Rattle.session.specs.SessionLaws.{lowChannel};
-ghost use Rattle.definition.specs.Faders.{inRange};
+ghost use Rattle.definition.specs.Faders.{inRange, nudges, writes};
 ghost use Rattle.definition.specs.Shape.{shapedStrips, wellShaped};
 ghost use Rattle.definition.specs.Step.{seen, refusal, step as stepOf};
 ghost use Rattle.definition.specs.Whole.{whole};
 ghost use Rattle.rig.specs.Seen.{rigIn};
-ghost use Rattle.bridge.specs.Which.{runs};
+ghost use Rattle.surface.specs.Home.{hasNote};
+ghost use Rattle.bridge.specs.Which.{pressIn, runs, bankBy, addsBy};
+ghost use Rattle.bridge.specs.Acts.{Leaves, RunsAny};
 ghost use Rattle.bounds.specs.Room.{LowInput};
 ghost use Rattle.delivery.specs.declared.Outcome.the-variants as outcome;
 ghost use Rattle.bridge.specs.Bridge.{Delivers, IsCurrent, isIdle, drainIf, Moves as MovesAs, Turns as TurnsAs, settingOf, Talks};
@@ -187,7 +191,7 @@ fn on_encoder(session: Session, profile: &[u8], channel: u8, delta: i32) -> Step
 
 // ── any other event ──
 
-// One read and one write for each sum that is not 0, then the line: the first part of a tick.
+// One read and one write for each sum that is not 0, then the line.
 fn drain(
     answers: &[u8],
     calls: &mut [u8; 5392],
@@ -197,23 +201,149 @@ fn drain(
     here: Current,
     line: Line,
     turns: Turns,
-    ticks: bool,
 ) -> Io
     requires { ⌜ here .strips .count ≤ 8 ⌝ }
     requires { ⌜ line .count ≤ 16 ⌝ }
     requires { ⌜ allOf lowChannel (seenLine line) ≡ true ⌝ }
     requires { ⌜ turns .count ≤ 136 ⌝ }
     requires { ⌜ allOf (isEncoder (now profile)) (take (turns .count) (turns .records)) ≡ true ⌝ }
-    ensures { λ r. ⌜ shown (now (answers .entry)) r (now (calls .exit)) (now (messages .exit)) ≡ drainIf ticks (rigIn (now (profile .entry)) here) (seenLine line) (seenTurns (now (profile .entry)) turns) (shown (now (answers .entry)) io (now (calls .entry)) (now (messages .entry))) ⌝ }
+    ensures { λ r. ⌜ shown (now (answers .entry)) r (now (calls .exit)) (now (messages .exit)) ≡ writes (rigIn (now (profile .entry)) here) (seenLine line) (nudges (seenTurns (now (profile .entry)) turns) (shown (now (answers .entry)) io (now (calls .entry)) (now (messages .entry)))) ⌝ }
 {
-    if !ticks {
-        return io;
-    }
     let n = turns.count;
     let records = turns.records;
     let sums = turns.sums;
     let u = hands::encoders::drain_turns(answers, calls, messages, io, profile, &records, &sums, n);
     hands::encoders::drain_line(answers, calls, messages, u, profile, here, line)
+}
+
+// A tick: the drain comes first. It is a function of its own since `run`, called from two, then stays one too: the compiler would make it a part of the
+// step, and copy the session more often there (bench/README.md).
+fn ticked(
+    answers: &[u8],
+    calls: &mut [u8; 5392],
+    messages: &mut [u8; 306],
+    io: Io,
+    profile: &[u8],
+    here: Current,
+    there: Current,
+    line: Line,
+    turns: Turns,
+    due: bool,
+    lamps: Lamps,
+    targets: &mut [u16; 256],
+    levels: &mut [f64; 256],
+    hushed: usize,
+    home: Level,
+    e: Timed,
+) -> Left
+    requires { ⌜ verdict (now profile) ≡ 0 ⌝ }
+    requires { ⌜ here .strips .count ≤ 8 ⌝ }
+    requires { ⌜ there .strips .count ≤ 8 ⌝ }
+    requires { ⌜ line .count ≤ 16 ⌝ }
+    requires { ⌜ allOf lowChannel (seenLine line) ≡ true ⌝ }
+    requires { ⌜ turns .count ≤ 136 ⌝ }
+    requires { ⌜ allOf (isEncoder (now profile)) (take (turns .count) (turns .records)) ≡ true ⌝ }
+    requires { ⌜ hushed ≤ 256 ⌝ }
+    requires { ⌜ hasNote (lamps .flash) ≡ true ⌝ }
+    requires { ⌜ here .bank < bankCount (now profile) ⌝ }
+    requires { ⌜ runs (e .what) ≡ true ⌝ }
+    requires { ⌜ there .bank ≡ bankBy (now profile) (here .bank) (pressIn (e .what)) ⌝ }
+    requires { ⌜ noTwice eqb (targetsOf (hushedUpTo hushed (now targets) (now levels))) ≡ true ⌝ }
+    requires { ⌜ length (hushedUpTo hushed (now targets) (now levels)) + length (addsBy (now profile) here lamps (pressIn (e .what)) (targetsOf (hushedUpTo hushed (now targets) (now levels)))) ≤ 256 ⌝ }
+    ensures { λ r. ⌜ RunsAny (e .what) (now (profile .entry)) here there lamps (hushedUpTo hushed (now (targets .entry)) (now (levels .entry))) home due (e .time) (writes (rigIn (now (profile .entry)) here) (seenLine line) (nudges (seenTurns (now (profile .entry)) turns) (shown (now (answers .entry)) io (now (calls .entry)) (now (messages .entry))))) r (hushedUpTo (r .hushed) (now (targets .exit)) (now (levels .exit))) (shown (now (answers .entry)) (r .io) (now (calls .exit)) (now (messages .exit))) ⌝ }
+    ensures { λ r. ⌜ Leaves here r ⌝ }
+{
+    let u = drain(answers, calls, messages, io, profile, here, line, turns);
+    acts::run(
+        answers,
+        calls,
+        messages,
+        u,
+        profile,
+        here,
+        there,
+        due,
+        lamps,
+        targets,
+        levels,
+        hushed,
+        home,
+        e,
+    )
+}
+
+// The event, a tick's drain included.
+fn act(
+    answers: &[u8],
+    calls: &mut [u8; 5392],
+    messages: &mut [u8; 306],
+    io: Io,
+    profile: &[u8],
+    here: Current,
+    there: Current,
+    line: Line,
+    turns: Turns,
+    at: Setting,
+    lamps: Lamps,
+    targets: &mut [u16; 256],
+    levels: &mut [f64; 256],
+    hushed: usize,
+    home: Level,
+    e: Timed,
+) -> Left
+    requires { ⌜ verdict (now profile) ≡ 0 ⌝ }
+    requires { ⌜ here .strips .count ≤ 8 ⌝ }
+    requires { ⌜ there .strips .count ≤ 8 ⌝ }
+    requires { ⌜ line .count ≤ 16 ⌝ }
+    requires { ⌜ allOf lowChannel (seenLine line) ≡ true ⌝ }
+    requires { ⌜ turns .count ≤ 136 ⌝ }
+    requires { ⌜ allOf (isEncoder (now profile)) (take (turns .count) (turns .records)) ≡ true ⌝ }
+    requires { ⌜ hushed ≤ 256 ⌝ }
+    requires { ⌜ hasNote (lamps .flash) ≡ true ⌝ }
+    requires { ⌜ here .bank < bankCount (now profile) ⌝ }
+    requires { ⌜ runs (e .what) ≡ true ⌝ }
+    requires { ⌜ there .bank ≡ bankBy (now profile) (here .bank) (pressIn (e .what)) ⌝ }
+    requires { ⌜ noTwice eqb (targetsOf (hushedUpTo hushed (now targets) (now levels))) ≡ true ⌝ }
+    requires { ⌜ length (hushedUpTo hushed (now targets) (now levels)) + length (addsBy (now profile) here lamps (pressIn (e .what)) (targetsOf (hushedUpTo hushed (now targets) (now levels)))) ≤ 256 ⌝ }
+    ensures { λ r. ⌜ RunsAny (e .what) (now (profile .entry)) here there lamps (hushedUpTo hushed (now (targets .entry)) (now (levels .entry))) home (at .due) (e .time) (drainIf (at .ticks) (rigIn (now (profile .entry)) here) (seenLine line) (seenTurns (now (profile .entry)) turns) (shown (now (answers .entry)) io (now (calls .entry)) (now (messages .entry)))) r (hushedUpTo (r .hushed) (now (targets .exit)) (now (levels .exit))) (shown (now (answers .entry)) (r .io) (now (calls .exit)) (now (messages .exit))) ⌝ }
+    ensures { λ r. ⌜ Leaves here r ⌝ }
+{
+    if at.ticks {
+        return ticked(
+            answers,
+            calls,
+            messages,
+            io,
+            profile,
+            here,
+            there,
+            line,
+            turns,
+            at.due,
+            lamps,
+            targets,
+            levels,
+            hushed,
+            home,
+            e,
+        );
+    }
+    acts::run(
+        answers,
+        calls,
+        messages,
+        io,
+        profile,
+        here,
+        there,
+        at.due,
+        lamps,
+        targets,
+        levels,
+        hushed,
+        home,
+        e,
+    )
 }
 
 // Where the fader of the flash's row was last seen in a bank. Where no flash plays, its row may be anything.
@@ -281,26 +411,17 @@ fn talk(
     let io = drivers::fresh(opened);
     let line = session.line;
     let turns = session.turns;
-    let u = drain(
+    let left = act(
         answers,
         &mut cs,
         &mut ms,
         io,
         profile,
         here,
+        there,
         line,
         turns,
-        at.ticks,
-    );
-    let left = acts::run(
-        answers,
-        &mut cs,
-        &mut ms,
-        u,
-        profile,
-        here,
-        there,
-        at.due,
+        at,
         lamps,
         targets,
         levels,

@@ -88,56 +88,28 @@ home-of-requires c κs = after-low (c .before .before .before .before .before .b
 fresh-requires : tie.Need-fresh-requires
 fresh-requires c κs = search needs
 
-drain-requires : tie.Need-drain-requires
-drain-requires c κs =
-    let b = c .before .before .before .before .before .before .before .before .before .before .before .before .before .before .before .before in
-    (c .before .before .before .before .before .before .before .before .before .before .before .current-bank .ensures .few, (line-few (b .args .profile .now) (b .args .session) (b .pre .1 .0), (line-is (b .args .profile .now) (b .args .session) (b .pre .1 .0) .low, (turns-few (b .args .profile .now) (b .args .session) (b .pre .1 .0), turns-wired (b .args .profile .now) (b .args .session) (b .pre .1 .0)))))
-
-run-requires : tie.Need-run-requires
-run-requires c κs =
-    let b = c .before .before .before .before .before .before .before .before .before .before .before .before .before .before .before .before .before .before .before .before .before in
-    let here = c .before .before .before .before .before .before .before .before .before .before .before .before .before .before .before .before .current-bank in
-    let there = c .before .before .before .before .before .before .before .before .before .before .before .before .before .before .before .current-bank2 in (
-      b .pre .0,
-      (
-        here .ensures .few,
-        (
-          there .ensures .few,
-          (
-            silenced-few (b .args .profile .now) (b .args .session) (b .pre .1 .0),
-            (
-              note-is (b .args .profile .now) (b .args .session) (b .pre .1 .0),
-              (
-                subst (λ n. n < bankCount (b .args .profile .now)) (sym (here .ensures .bank)) (bank-below (b .args .profile .now) (b .args .session) (b .pre .1 .0)),
-                (
-                  b .pre .1 .1 .1 .1 .0,
-                  (
-                    there .ensures .bank ∙ ap (λ (a : Setting). a .after) (b .pre .1 .1 .1 .1 .1 .1 .0) ∙ ap (λ n. bankBy (b .args .profile .now) n (pressIn (b .args .e .what))) (sym (here .ensures .bank)),
-                    (once-so b, room-at b (here .result) (here .ensures)),
-                  ),
-                ),
-              ),
-            ),
-          ),
-        ),
-      ),
-    )
+act-requires : tie.Need-act-requires
+act-requires c κs =
+    let b = c .before .before .before .before .before .before .before .before .before .before .before .before .before .before .before .before .before .before in
+    let here = c .before .before .before .before .before .before .before .before .before .before .before .before .before .current-bank in
+    let there = c .before .before .before .before .before .before .before .before .before .before .before .before .current-bank2 in
+    (b .pre .0, (here .ensures .few, (there .ensures .few, (line-few (b .args .profile .now) (b .args .session) (b .pre .1 .0), (line-is (b .args .profile .now) (b .args .session) (b .pre .1 .0) .low, (turns-few (b .args .profile .now) (b .args .session) (b .pre .1 .0), (turns-wired (b .args .profile .now) (b .args .session) (b .pre .1 .0), (silenced-few (b .args .profile .now) (b .args .session) (b .pre .1 .0), (note-is (b .args .profile .now) (b .args .session) (b .pre .1 .0), (subst (λ n. n < bankCount (b .args .profile .now)) (sym (here .ensures .bank)) (bank-below (b .args .profile .now) (b .args .session) (b .pre .1 .0)), (b .pre .1 .1 .1 .1 .0, (there .ensures .bank ∙ ap (λ (a : Setting). a .after) (b .pre .1 .1 .1 .1 .1 .1 .0) ∙ ap (λ n. bankBy (b .args .profile .now) n (pressIn (b .args .e .what))) (sym (here .ensures .bank)), (once-so b, room-at b (here .result) (here .ensures))))))))))))))
 
 remember-requires : tie.Need-remember-requires
 remember-requires c κs = search needs
 
 ending-requires : tie.Need-ending-requires
 ending-requires c κs =
-    let b = c .before .before .before .before .before .before .before .before .before .before .before .before .before .before .before .before .before .before .before .before .before .before .before .before .before .before .before .before .before in
-    let here = c .before .before .before .before .before .before .before .before .before .before .before .before .before .before .before .before .before .before .before .before .before .before .before .before .current-bank in
-    let there = c .before .before .before .before .before .before .before .before .before .before .before .before .before .before .before .before .before .before .before .before .before .before .before .current-bank2 in
-    let home = c .before .before .before .before .before .before .before .before .before .before .before .before .before .before .before .before .before .before .before .before .home-of in
-    let ran = c .before .before .before .before .before .before .before .run in (
+    let b = c .before .before .before .before .before .before .before .before .before .before .before .before .before .before .before .before .before .before .before .before .before .before .before .before .before .before in
+    let here = c .before .before .before .before .before .before .before .before .before .before .before .before .before .before .before .before .before .before .before .before .before .current-bank in
+    let there = c .before .before .before .before .before .before .before .before .before .before .before .before .before .before .before .before .before .before .before .before .current-bank2 in
+    let home = c .before .before .before .before .before .before .before .before .before .before .before .before .before .before .before .before .before .home-of in
+    let ran = c .before .before .before .before .before .before .before .act in (
       b .pre .1 .1 .0,
       (
         b .pre .1 .1 .1 .0,
-        room-so (b .args .profile .now) (b .args .session) (b .args .e) (b .args .answers .now) (here .result) (rig-now (b .args .profile .now) (b .args .session) ∙ rig-is (b .args .profile .now) (b .args .session) (b .args .session .bank) (here .result) (here .ensures)) (b .args .at .ticks) _ _ _
-            (c .before .before .before .before .before .before .before .before .before .before .before .before .before .before .before .before .before .fresh .ensures _ _ _) (ap (λ (a : Setting). a .ticks) (b .pre .1 .1 .1 .1 .1 .1 .0)) (c .before .before .before .before .before .before .before .before .before .before .before .before .drain .ensures) (b .args .at .due) (ran .result) _
+        room-so (b .args .profile .now) (b .args .session) (b .args .e) (b .args .answers .now) (here .result) (rig-now (b .args .profile .now) (b .args .session) ∙ rig-is (b .args .profile .now) (b .args .session) (b .args .session .bank) (here .result) (here .ensures)) (b .args .at .ticks) _ _
+            (c .before .before .before .before .before .before .before .before .before .before .before .before .before .before .fresh .ensures _ _ _) (ap (λ (a : Setting). a .ticks) (b .pre .1 .1 .1 .1 .1 .1 .0)) (b .args .at .due) (ran .result) _
             (ran .ensures .0 (seen (b .args .profile .now) (b .args .session)) (given-at b (here .result) (there .result) (home .result) (here .ensures) (there .ensures) (home .ensures)) (due-at b))
             (b .pre .0) (well-seen (b .args .profile .now) (b .args .session) (opened-long b) (b .pre .1 .0)) (b .pre .1 .1 .1 .1 .1 .0) _ _ _ refl,
       ),
@@ -151,13 +123,13 @@ same-length-2 c = search needs
 
 returns : tie.Need-returns
 returns c =
-    let b = c .before .before .before .before .before .before .before .before .before .before .before .before .before .before .before .before .before .before .before .before .before .before .before .before .before .before .before .before .before .before .before .before .before .before in
-    let here = c .before .before .before .before .before .before .before .before .before .before .before .before .before .before .before .before .before .before .before .before .before .before .before .before .before .before .before .before .before .current-bank in
-    let there = c .before .before .before .before .before .before .before .before .before .before .before .before .before .before .before .before .before .before .before .before .before .before .before .before .before .before .before .before .current-bank2 in
-    let home = c .before .before .before .before .before .before .before .before .before .before .before .before .before .before .before .before .before .before .before .before .before .before .before .before .before .home-of in
-    let ran = c .before .before .before .before .before .before .before .before .before .before .before .before .run in
-    talks-so (b .args .profile .now) (b .args .session) (b .args .e) (b .args .answers .now) (here .result) (rig-now (b .args .profile .now) (b .args .session) ∙ rig-is (b .args .profile .now) (b .args .session) (b .args .session .bank) (here .result) (here .ensures)) (b .args .at .ticks) _ _ _
-    (c .before .before .before .before .before .before .before .before .before .before .before .before .before .before .before .before .before .before .before .before .before .before .fresh .ensures _ _ _) (ap (λ (a : Setting). a .ticks) (b .pre .1 .1 .1 .1 .1 .1 .0)) (c .before .before .before .before .before .before .before .before .before .before .before .before .before .before .before .before .before .drain .ensures) (b .args .at .due) (ran .result) _
+    let b = c .before .before .before .before .before .before .before .before .before .before .before .before .before .before .before .before .before .before .before .before .before .before .before .before .before .before .before .before .before .before .before in
+    let here = c .before .before .before .before .before .before .before .before .before .before .before .before .before .before .before .before .before .before .before .before .before .before .before .before .before .before .current-bank in
+    let there = c .before .before .before .before .before .before .before .before .before .before .before .before .before .before .before .before .before .before .before .before .before .before .before .before .before .current-bank2 in
+    let home = c .before .before .before .before .before .before .before .before .before .before .before .before .before .before .before .before .before .before .before .before .before .before .home-of in
+    let ran = c .before .before .before .before .before .before .before .before .before .before .before .before .act in
+    talks-so (b .args .profile .now) (b .args .session) (b .args .e) (b .args .answers .now) (here .result) (rig-now (b .args .profile .now) (b .args .session) ∙ rig-is (b .args .profile .now) (b .args .session) (b .args .session .bank) (here .result) (here .ensures)) (b .args .at .ticks) _ _
+    (c .before .before .before .before .before .before .before .before .before .before .before .before .before .before .before .before .before .before .before .fresh .ensures _ _ _) (ap (λ (a : Setting). a .ticks) (b .pre .1 .1 .1 .1 .1 .1 .0)) (b .args .at .due) (ran .result) _
     (ran .ensures .0 (seen (b .args .profile .now) (b .args .session)) (given-at b (here .result) (there .result) (home .result) (here .ensures) (there .ensures) (home .ensures)) (due-at b))
     (due-is b) (ran .ensures .1) (here .ensures .bank) (ran .result .io) _ _ refl _ (c .before .before .before .before .before .before .before .before .before .before .remember .ensures) _ _ _ _ _ (c .before .before .before .before .ending .ensures)
 
@@ -169,8 +141,7 @@ talk-spec =
     current-bank-requires-2
     home-of-requires
     fresh-requires
-    drain-requires
-    run-requires
+    act-requires
     remember-requires
     ending-requires
     same-length

@@ -1,6 +1,7 @@
 pub mod Gather
 pub mod Lookup
 pub mod View
+pub mod SeenLaws
 pub mod GatherLaws
 pub mod LookupLaws
 pub mod SceneLaws

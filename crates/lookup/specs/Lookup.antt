@@ -3,7 +3,7 @@ use Prim.Native.Nat.{ℕ, _≤_}
 use mathlib.Core.Path.{_≡_}
 use mathlib.Core.Logic.{_⊎_}
 use mathlib.Core.Bool.{Bool, _&&_, Bool·beq}
-use mathlib.Core.List.{List, [], _∷_}
+use mathlib.Core.List.{List, [], _∷_, map}
 use mathlib.Core.Option.{Option, none, some}
 use lib.Dec.{eqb, leb, ltb}
 use lib.ListN.{length, getD, take}
@@ -21,7 +21,6 @@ use Rattle.lookup.specs.declared.Found.the-variants as found
 use Rattle.lookup.specs.declared.Bound.{Bound}
 use Rattle.lookup.specs.declared.Bound.the-variants as bound
 use Rattle.lookup.specs.declared.Entry.{Entry}
-use Rattle.lookup.specs.declared.Entries.{Entries}
 use Rattle.lookup.specs.declared.Drivers.{Drivers}
 use Rattle.lookup.specs.Gather.{gather}
 
@@ -197,9 +196,9 @@ unfoldable pub merged : List Entry → List Entry → List Entry
 merged [] own = own
 merged (e ∷ globals) own = merged globals (place e own)
 
--- what is seen of the array
-abbrev pub seenEntries : Entries → List Entry
-seenEntries e = take (e .count) (e .list)
+-- what is seen of an array of records' numbers: the buttons of the first n
+abbrev pub seenEntries : List ℕ → ℕ → List ℕ → List Entry
+seenEntries s n ks = map (entryAt s) (take n ks)
 
 -- ── default buttons ──
 

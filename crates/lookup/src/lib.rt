@@ -3,10 +3,11 @@ ghost use mathlib.Core.Path.{_≡_};
 ghost use mathlib.Core.List.{_∷_, [], _++_};
 ghost use Prim.Native.Nat.{_+_, _<_, _≤_};
 ghost use lib.Dec.{ltb};
-ghost use lib.ListN.{length, getD};
+ghost use lib.ListN.{length, getD, take};
 ghost use Rattle.profile.specs.Profile.{records, bankCount, verdict};
 ghost use Rattle.lookup.specs.Lookup.{positionsOf, rememberOf, isEntry, isPast, entry, ofPart, halfOf, byteOf, bankAt, nameOf, deviceOf, liveOf, recOf, selectOf, bankNamed, destAt, faderOf, encoderPlace, precede, sameDest, scenesOf, position, buttonOf, commandAt, entryAt, transportsOf, transportOf, before, ofKind, place, merged, seenEntries, seenDrivers, times, mostCommon, MayBeDriver};
 ghost use Rattle.base.specs.Keyed.{at};
+ghost use Rattle.base.specs.Words.{le16};
 
 // The name number of what is not there.
 pub const ABSENT: u16 = 65535;
@@ -45,11 +46,6 @@ pub enum Bound {
 pub struct Entry {
     pub kind: u8,
     pub command: Command,
-}
-
-pub struct Entries {
-    pub list: [Entry; 32],
-    pub count: usize,
 }
 
 // The drivers of some faders, in the faders' order.
@@ -379,12 +375,31 @@ fn command_at(s: &[u8], k: usize) -> Command
     }
 }
 
-fn entry_at(s: &[u8], k: usize) -> Entry
-    requires { ⌜ k < records (now s) ⌝ }
+// Two bytes at a place of the profile, 0 for those past its end.
+fn half_or_zero(s: &[u8], at: u32) -> u16
+    ensures { λ r. ⌜ r ≡ le16 (now (s .entry)) at ⌝ }
+{
+    let i = at as usize;
+    let low = byte_or_zero(s, i) as u16;
+    let high = byte_or_zero(s, i + 1) as u16;
+    low + 256 * high
+}
+
+// The button of record k. A number that is no record's has what the profile has there, and 0 past its end.
+pub fn entry_at(s: &[u8], k: u16) -> Entry
     ensures { λ r. ⌜ r ≡ entryAt (now (s .entry)) k ⌝ }
 {
-    let kind = profile::view::byte(s, k, 2);
-    let command = command_at(s, k);
+    let at = k as u32 * 32;
+    let i = at as usize;
+    let kind = byte_or_zero(s, i + 2);
+    let driver = byte_or_zero(s, i + 4);
+    let target = half_or_zero(s, at + 6);
+    let number = half_or_zero(s, at + 8);
+    let command = Command {
+        driver: driver,
+        target: target,
+        command: number,
+    };
     Entry { kind, command }
 }
 
@@ -408,43 +423,26 @@ pub fn transport_in_reach(profile: &[u8], bank: u8, kind: u8) -> Bound
     }
 }
 
-fn no_entries() -> Entries
-    ensures { λ r. ⌜ (r .count ≡ 0) × (seenEntries r ≡ []) ⌝ }
+// One more, behind the first n. The list has all its places then, as after each function here that changes it.
+fn push(list: &mut [u16; 32], n: usize, k: u16) -> usize
+    requires { ⌜ n < 32 ⌝ }
+    ensures { λ r. ⌜ (r ≡ n + 1) × (take r (now (list .exit)) ≡ take n (now (list .entry)) ++ (k ∷ [])) × (length (now (list .exit)) ≡ 32) ⌝ }
 {
-    let command = Command {
-        driver: 0,
-        target: 0,
-        command: 0,
-    };
-    let none = Entry { kind: 0, command };
-    Entries {
-        list: [none; 32],
-        count: 0,
-    }
+    let ks: &mut [u16] = list;
+    ks[n] = k;
+    n + 1
 }
 
-// One more, behind those that are there.
-fn push(entries: Entries, e: Entry) -> Entries
-    requires { ⌜ entries .count < 32 ⌝ }
-    ensures { λ r. ⌜ (r .count ≡ entries .count + 1) × (seenEntries r ≡ seenEntries entries ++ (e ∷ [])) ⌝ }
+// The place of the first of the kind among the first n, n if there is none.
+fn find_kind(profile: &[u8], list: &[u16; 32], n: usize, kind: u8) -> usize
+    requires { ⌜ n ≤ 32 ⌝ }
+    ensures { λ r. ⌜ r ≡ at (ofKind kind) (seenEntries (now (profile .entry)) n (now (list .entry))) ⌝ }
 {
-    let mut t = entries;
-    let n = entries.count;
-    t.list[n] = e;
-    t.count = n + 1;
-    t
-}
-
-// The place of the first of the kind, the count if there is none.
-fn find_kind(entries: Entries, kind: u8) -> usize
-    requires { ⌜ entries .count ≤ 32 ⌝ }
-    ensures { λ r. ⌜ r ≡ at (ofKind kind) (seenEntries entries) ⌝ }
-{
-    let n = entries.count;
+    let ks: &[u16] = list;
     let mut i: usize = 0;
     while i < n {
-        let e = entries.list[i];
-        if e.kind == kind {
+        let at = ks[i] as usize * 32;
+        if byte_or_zero(profile, at + 2) == kind {
             return i;
         }
         i += 1;
@@ -453,62 +451,64 @@ fn find_kind(entries: Entries, kind: u8) -> usize
 }
 
 // It replaces the first of its kind, or comes behind.
-fn put(entries: Entries, e: Entry) -> Entries
-    requires { ⌜ entries .count < 32 ⌝ }
-    ensures { λ r. ⌜ (r .count ≤ entries .count + 1) × (seenEntries r ≡ place e (seenEntries entries)) ⌝ }
+fn put(profile: &[u8], list: &mut [u16; 32], n: usize, k: u16) -> usize
+    requires { ⌜ n < 32 ⌝ }
+    ensures { λ r. ⌜ (r ≤ n + 1) × (seenEntries (now (profile .entry)) r (now (list .exit)) ≡ place (entryAt (now (profile .entry)) k) (seenEntries (now (profile .entry)) n (now (list .entry)))) × (length (now (list .exit)) ≡ 32) ⌝ }
 {
-    let i = find_kind(entries, e.kind);
-    let mut t = entries;
-    let n = entries.count;
+    let at = k as usize * 32;
+    let i = find_kind(profile, list, n, byte_or_zero(profile, at + 2));
+    let ks: &mut [u16] = list;
+    ks[i] = k;
     if i < n {
-        t.list[i] = e;
-        return t;
+        return n;
     }
-    t.list[n] = e;
-    t.count = n + 1;
-    t
+    n + 1
 }
 
-// The transport buttons of one bank or of the globals, in file order.
-fn own_transports(profile: &[u8], bank: u8) -> Entries
+// The transport buttons of one bank or of the globals, in file order, by the numbers of their records, and how many there are. The list is lent: one that
+// is handed on is copied at each button. It is of numbers, since an array of structs cannot be lent.
+fn own_transports(profile: &[u8], bank: u8, list: &mut [u16; 32]) -> usize
     requires { ⌜ verdict (now profile) ≡ 0 ⌝ }
-    ensures { λ r. ⌜ (r .count ≤ 16) × (seenEntries r ≡ transportsOf (now (profile .entry)) bank) ⌝ }
+    ensures { λ r. ⌜ (r ≤ 16) × (seenEntries (now (profile .entry)) r (now (list .exit)) ≡ transportsOf (now (profile .entry)) bank) × (length (now (list .exit)) ≡ 32) ⌝ }
 {
+    // Lent as a slice, the list is known to have all its places.
+    let ks: &[u16] = list;
     let end = profile.len() / 32;
-    let mut entries = no_entries();
+    let mut n: usize = 0;
     let mut k = 0;
     while k < end {
         let i = k;
         if is_past(profile, 5, i) {
-            return entries;
+            return n;
         }
         k += 1;
         if of_part(profile, 5, bank, i) {
-            entries = push(entries, entry_at(profile, i));
+            n = push(list, n, i as u16);
         }
     }
-    entries
+    n
 }
 
-// The list of lamps: the bank's entries in file order, each global entry in the place of the first of its kind, or behind.
-pub fn transports(profile: &[u8], bank: u8) -> Entries
+// The list of lamps, by the numbers of the buttons' records, and how many there are: the bank's entries in file order, each global entry in the place of
+// the first of its kind, or behind.
+pub fn transports(profile: &[u8], bank: u8, list: &mut [u16; 32]) -> usize
     requires { ⌜ verdict (now profile) ≡ 0 ⌝ }
-    ensures { λ r. ⌜ (r .count ≤ 32) × (seenEntries r ≡ merged (transportsOf (now (profile .entry)) 255) (transportsOf (now (profile .entry)) bank)) ⌝ }
+    ensures { λ r. ⌜ (r ≤ 32) × (seenEntries (now (profile .entry)) r (now (list .exit)) ≡ merged (transportsOf (now (profile .entry)) 255) (transportsOf (now (profile .entry)) bank)) × (length (now (list .exit)) ≡ 32) ⌝ }
 {
     let end = profile.len() / 32;
-    let mut entries = own_transports(profile, bank);
+    let mut n = own_transports(profile, bank, list);
     let mut k = 0;
     while k < end {
         let i = k;
         if is_past(profile, 5, i) {
-            return entries;
+            return n;
         }
         k += 1;
         if of_part(profile, 5, GLOBALS, i) {
-            entries = put(entries, entry_at(profile, i));
+            n = put(profile, list, n, i as u16);
         }
     }
-    entries
+    n
 }
 
 // ── the driver that most faders have ──

@@ -1,14 +1,14 @@
 -- What the transport lamps' functions share: the known players as the first n of an array, and the lamps counted up. Assumes nothing.
 use mathlib.Core.Path.{_≡_, refl, sym, ap, _∙_, subst}
 use mathlib.Core.Bool.{Bool, true, false}
-use mathlib.Core.List.{List, [], _∷_, _++_, map, map-append}
-use mathlib.Core.Option.{none, some}
-use Prim.Native.Nat.{ℕ, zero, suc, _+_, _≤_, _<_}
+use mathlib.Core.List.{List, []}
+use Prim.Native.Nat.{ℕ, zero, suc, _+_, _*_, _/_, _%_, _≤_, _<_}
+use native.Mathlib.Nat.{add-zero}
 use native.Mathlib.Numerals.{add-one}
 use native.Mathlib.Omega.{arith}
 use lib.Dec.{ltb}
-use lib.ListN.{length, getD, take, set, drop, length-map, List·getD-map, drop-of-length-le}
-use lib.Seq.{take-suc-set, getD-take, drop-cons, getD-at}
+use lib.ListN.{length, getD, take, set, drop, length-map, drop-of-length-le}
+use lib.Seq.{length-take-le, drop-cons, getD-at}
 use borrow.Author.Tests.{ltb-true, ltb-false}
 use Rattle.base.specs.Keyed.{at, find}
 use Rattle.base.specs.KeyedLaws as laws
@@ -16,102 +16,53 @@ use Rattle.protocol.specs.Protocol.{transportNote}
 use Rattle.protocol.specs.declared.Out.the-variants.{Led}
 use Rattle.lookup.specs.declared.Command.{Command}
 use Rattle.lookup.specs.declared.Entry.{Entry}
+use Rattle.lookup.specs.Lookup.{entryAt, seenEntries}
+use Rattle.lookup.specs.SeenLaws.{within, found, not-found, behind, kth}
 use Rattle.drivers.specs.Talk.{Talk, Got, got, next, send, playingOf}
 use Rattle.definition.specs.Lamps.{Player, isPlayer, met, meetIf, lampFor, pushBound}
-use Rattle.transport.specs.Known.{playerOf, meetOne, meeting, noEntry, litUpTo}
-use Rattle.transport.specs.declared.Player as declared
+use Rattle.transport.specs.Known.{playerOf, seenPlayers, meetOne, meeting, noEntry, litUpTo}
 
--- what stands past an array's end
-abbrev pub noPlayer : declared.Player
-noPlayer = record { driver = 0; target = 0; there = false }
+-- what stands past the last of the known
+abbrev nobody : Player
+nobody = playerOf 0
 
-abbrev pub nobody : Player
-nobody = record { driver = 0; target = 0; there = false }
+-- ── a player as one number ──
 
-map-take : (n : ℕ) (l : List declared.Player) → map playerOf (take n l) ≡ take n (map playerOf l)
-map-take zero l = refl
-map-take (suc n) [] = refl
-map-take (suc n) (x ∷ l) = ap (λ r. playerOf x ∷ r) (map-take n l)
+packed-driver : (d t b : ℕ) → t < 65536 → b < 2 → ((d * 65536 + t) * 2 + b) / 131072 ≡ d
+packed-driver d t b h l = omega arith
 
--- ── the known players: the first n of an array ──
-module _ (c : Command) (xs : List declared.Player) where
-  pub none-yet : at (isPlayer c) (map playerOf (take 0 xs)) ≡ 0
-  none-yet = rw (map-take 0 xs) (laws.at-none (isPlayer c) nobody (map playerOf xs))
+packed-target : (d t b : ℕ) → t < 65536 → b < 2 → ((d * 65536 + t) * 2 + b) / 2 % 65536 ≡ t
+packed-target d t b h l = omega arith
 
-  pub one-more : (k : ℕ) → k < length xs → at (isPlayer c) (map playerOf (take k xs)) ≡ k → isPlayer c (playerOf (getD xs k noPlayer)) ≡ false →
-      at (isPlayer c) (map playerOf (take (k + 1) xs)) ≡ k + 1
-  one-more k h e g =
-      rw (add-one, map-take (suc k) xs)
-      (laws.at-more
-      (isPlayer c)
-      nobody
-      (map playerOf xs)
-      k
-      (rw (length-map xs playerOf) h)
-      (sym (ap (at (isPlayer c)) (map-take k xs)) ∙ e)
-      (ap (isPlayer c) (List·getD-map playerOf xs k noPlayer) ∙ g))
+packed-there : (d t b : ℕ) → b < 2 → ((d * 65536 + t) * 2 + b) % 2 ≡ b
+packed-there d t b l = omega arith
 
-  pub match : (k n : ℕ) → k < n → n ≤ length xs → at (isPlayer c) (map playerOf (take k xs)) ≡ k → isPlayer c (playerOf (getD xs k noPlayer)) ≡ true →
-      k ≡ at (isPlayer c) (map playerOf (take n xs))
-  match k n h l e g =
-      sym
-      (ap (at (isPlayer c)) (map-take n xs) ∙
-      laws.at-hit
-      (isPlayer c)
-      nobody
-      (map playerOf xs)
-      k
-      n
-      h
-      (rw (length-map xs playerOf) l)
-      (sym (ap (at (isPlayer c)) (map-take k xs)) ∙ e)
-      (ap (isPlayer c) (List·getD-map playerOf xs k noPlayer) ∙ g))
+pub is-there : (c : Command) → c .target < 65536 → playerOf ((c .driver * 65536 + c .target) * 2 + 1) ≡ met c true
+is-there c h = rw (packed-driver (c .driver) (c .target) 1 h (omega arith), packed-target (c .driver) (c .target) 1 h (omega arith), packed-there (c .driver) (c .target) 1 (omega arith))
 
-  pub no-match : (k n : ℕ) → k ≤ n → n ≤ k → at (isPlayer c) (map playerOf (take k xs)) ≡ k → k ≡ at (isPlayer c) (map playerOf (take n xs))
-  no-match k n h l e = let q : k ≡ n = omega arith in subst (λ (m : ℕ). k ≡ at (isPlayer c) (map playerOf (take m xs))) q (sym e)
+pub is-gone : (c : Command) → c .target < 65536 → playerOf ((c .driver * 65536 + c .target) * 2) ≡ met c false
+is-gone c h =
+    let n : ℕ = (c .driver * 65536 + c .target) * 2 in
+    ap playerOf (sym (add-zero n))
+    ∙ rw (packed-driver (c .driver) (c .target) 0 h (omega arith), packed-target (c .driver) (c .target) 0 h (omega arith), packed-there (c .driver) (c .target) 0 (omega arith))
 
-  -- ── where the scan ended at k ──
-  module _ (n k : ℕ) (e : k ≡ at (isPlayer c) (map playerOf (take n xs))) (l : n < length xs) where
-    seen : k ≡ at (isPlayer c) (take n (map playerOf xs))
-    seen = e ∙ ap (at (isPlayer c)) (map-take n xs)
+-- ── the known players: the first n of an array, where the scan ended at k ──
+module _ (c : Command) (xs : List ℕ) (n k : ℕ) (e : k ≡ at (isPlayer c) (seenPlayers n xs)) (l : n < length xs) where
+  -- an array with room has a place there
+  pub placed : (top : ℕ) → n < top → k < top
+  placed top h = omega (arith, within playerOf (isPlayer c) xs n k e (omega arith))
 
-    long : n ≤ length (map playerOf xs)
-    long = rw (length-map xs playerOf) (omega arith)
+  -- a player that is known is not asked again
+  pub meet-known : (t : Talk) → k < n → got (seenPlayers n xs) t ≡ meeting c (seenPlayers n xs) t
+  unfolding meeting
+  meet-known t h = rw (found playerOf (isPlayer c) xs n k e (omega arith) h)
 
-    within : k ≤ n
-    within = laws.found-le (isPlayer c) nobody (map playerOf xs) n k seen long
-
-    -- an array with room has a place there
-    pub placed : (top : ℕ) → n < top → k < top
-    placed top h = omega (arith, within)
-
-    known-one : k < n → find (isPlayer c) (map playerOf (take n xs)) ≡ some (playerOf (getD xs k noPlayer))
-    known-one h =
-        ap (find (isPlayer c)) (map-take n xs) ∙
-        laws.found (isPlayer c) nobody (map playerOf xs) n k seen long h ∙
-        ap some (List·getD-map playerOf xs k noPlayer)
-
-    new-one : n ≤ k → find (isPlayer c) (map playerOf (take n xs)) ≡ none
-    new-one h = ap (find (isPlayer c)) (map-take n xs) ∙ laws.not-found (isPlayer c) nobody (map playerOf xs) n k seen long h
-
-    behind : (p : declared.Player) → n ≤ k → map playerOf (take (k + 1) (set xs k p)) ≡ map playerOf (take n xs) ++ (playerOf p ∷ [])
-    behind p h = let q : k ≡ n = omega (arith, within) in
-        rw (add-one, take-suc-set xs k p (omega arith), map-append, q)
-
-    -- a player that is known is not asked again
-    pub meet-known : (t : Talk) → k < n → got (map playerOf (take n xs)) t ≡ meeting c (map playerOf (take n xs)) t
-    unfolding meeting
-    meet-known t h = rw (known-one h)
-
-    -- another is, and comes behind
-    pub meet-new : (t u : Talk) (b : Bool) → n ≤ k → got b u ≡ playingOf (c .driver) (c .target) t →
-        got (map playerOf (take (k + 1) (set xs k (record { driver = c .driver; target = c .target; there = b })))) u ≡ meeting c (map playerOf (take n xs)) t
-    unfolding meeting next
-    meet-new t u b h q = rw (new-one h, ← q, behind (record { driver = c .driver; target = c .target; there = b }) h)
-
--- the k-th of the known players
-kth : (xs : List declared.Player) (n k : ℕ) → k < n → getD (map playerOf (take n xs)) k nobody ≡ playerOf (getD xs k noPlayer)
-kth xs n k h = List·getD-map playerOf (take n xs) k noPlayer ∙ ap playerOf (getD-take n xs k noPlayer h)
+  -- another is, and comes behind
+  pub meet-new : (t u : Talk) (b : Bool) (p : ℕ) → playerOf p ≡ met c b → n ≤ k → got b u ≡ playingOf (c .driver) (c .target) t →
+      got (seenPlayers (k + 1) (set xs k p)) u ≡ meeting c (seenPlayers n xs) t
+  unfolding meeting next
+  meet-new t u b p m h q =
+      rw (not-found playerOf (isPlayer c) xs n k e (omega arith) h, ← q, behind playerOf (isPlayer c) xs n k e (omega arith) p l h, m)
 
 -- ── the lamp shows what the k-th player said, once it is known ──
 module _ (c : Command) (known : List Player) (k : ℕ) (e : k ≡ at (isPlayer c) known) (n : ℕ) (t : Talk) where
@@ -130,10 +81,10 @@ module _ (c : Command) (known : List Player) (k : ℕ) (e : k ≡ at (isPlayer c
       )
 
   -- xs are the players after the meeting, m of them
-  pub lit-kth : (xs : List declared.Player) (m : ℕ) (u : Talk) → k < m → got (map playerOf (take m xs)) u ≡ meeting c known t →
-      got (map playerOf (take m xs)) (send (Led n (getD xs k noPlayer .there)) u) ≡ meetIf (find (isPlayer c) known) c known n t
+  pub lit-kth : (xs : List ℕ) (m : ℕ) (u : Talk) → k < m → got (seenPlayers m xs) u ≡ meeting c known t →
+      got (seenPlayers m xs) (send (Led n (playerOf (getD xs k 0) .there)) u) ≡ meetIf (find (isPlayer c) known) c known n t
   lit-kth xs m u h q =
-      ap (λ (p : Player). got (map playerOf (take m xs)) (send (Led n (p .there)) u)) (sym (kth xs m k h)) ∙ ap lit q ∙ lit-met
+      ap (λ (p : Player). got (seenPlayers m xs) (send (Led n (p .there)) u)) (sym (kth playerOf xs m k h)) ∙ ap lit q ∙ lit-met
 
 -- ── the lamps counted up ──
 module _ (es : List Entry) (t : Talk) where
@@ -156,12 +107,19 @@ module _ (es : List Entry) (t : Talk) where
   lit-all i known u l q = ap (λ (r : Got (List Player)). r .talk) q ∙ nothing-left i (omega arith) ∙ lit-rest i (omega arith)
 
 -- none is lit yet, and nobody known
-pub lit-none : (xs : List declared.Player) (es : List Entry) (n : ℕ) (t : Talk) → n ≡ 0 → got (map playerOf (take n xs)) t ≡ litUpTo es 0 t
+pub lit-none : (es : List Entry) (t : Talk) → got [] t ≡ litUpTo es 0 t
 unfolding litUpTo
-lit-none xs es n t e = rw e
+lit-none es t = refl
 
--- the first n of an array of entries, one more lit
-pub lit-next : (xs : List Entry) (n i : ℕ) (t u : Talk) (known : List Player) (r : Got (List Player)) → i < n → got known u ≡ litUpTo (take n xs) i t →
-    r ≡ lampFor (transportNote (getD xs i noEntry .kind)) (getD xs i noEntry .command) known u → r ≡ litUpTo (take n xs) (i + 1) t
-unfolding litUpTo next
-lit-next xs n i t u known r h q e = rw (add-one, ← q, getD-take n xs i noEntry h) e
+-- the buttons of the first n records of an array, one more lit
+module _ (s ks : List ℕ) (n : ℕ) (l : n ≤ length ks) where
+  pub how-many : length (seenEntries s n ks) ≡ n
+  how-many = length-map (take n ks) (entryAt s) ∙ length-take-le n ks l
+
+  ith : (i : ℕ) → i < n → getD (seenEntries s n ks) i noEntry ≡ entryAt s (getD ks i 0)
+  ith i h = laws.other-none (seenEntries s n ks) i noEntry (entryAt s 0) (omega (arith, how-many)) ∙ kth (entryAt s) ks n i h
+
+  pub lit-next : (i : ℕ) (t u : Talk) (known : List Player) (r : Got (List Player)) (e : Entry) → i < n → e ≡ entryAt s (getD ks i 0) →
+      got known u ≡ litUpTo (seenEntries s n ks) i t → r ≡ lampFor (transportNote (e .kind)) (e .command) known u → r ≡ litUpTo (seenEntries s n ks) (i + 1) t
+  unfolding litUpTo next
+  lit-next i t u known r e h b q m = rw (add-one, ← q, ith i h) (m ∙ ap (λ (x : Entry). lampFor (transportNote (x .kind)) (x .command) known u) b)

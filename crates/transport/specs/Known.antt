@@ -1,7 +1,8 @@
 -- The players that the transport lamps of one event have asked: the first `count` of an array, as the definition has them. Definitions only.
-use Prim.Native.Nat.{ℕ, zero, suc}
+use Prim.Native.Nat.{ℕ, zero, suc, _/_, _%_}
 use mathlib.Core.List.{List, [], _∷_, _++_, map}
 use mathlib.Core.Option.{Option, none, some}
+use lib.Dec.{eqb}
 use lib.ListN.{getD, take}
 use Rattle.base.specs.Keyed.{find}
 use Rattle.protocol.specs.Protocol.{transportNote}
@@ -9,14 +10,14 @@ use Rattle.lookup.specs.declared.Command.{Command}
 use Rattle.lookup.specs.declared.Entry.{Entry}
 use Rattle.drivers.specs.Talk.{Talk, Got, Act, got, next, playingOf}
 use Rattle.definition.specs.Lamps.{Player, isPlayer, met, lampFor}
-use Rattle.transport.specs.declared.Player as declared
-use Rattle.transport.specs.declared.Players.{Players}
 
-abbrev pub playerOf : declared.Player → Player
-playerOf p = record { driver = p .driver; target = p .target; there = p .there }
+-- a player as one number: the driver, the target in 16 bits, and in the last bit whether it is there
+abbrev pub playerOf : ℕ → Player
+playerOf p = record { driver = p / 131072; target = p / 2 % 65536; there = eqb (p % 2) 1 }
 
-abbrev pub seenPlayers : Players → List Player
-seenPlayers p = map playerOf (take (p .count) (p .list))
+-- what is seen of the array: the first n
+abbrev pub seenPlayers : ℕ → List ℕ → List Player
+seenPlayers n l = map playerOf (take n l)
 
 -- a player that is known is not asked again; another is, and comes behind
 abbrev pub meetOne : Option Player → Command → List Player → Act (List Player)

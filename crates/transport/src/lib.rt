@@ -7,85 +7,69 @@ use protocol::Found;
 ghost use mathlib.Core.Path.{_≡_};
 ghost use mathlib.Core.List.{[]};
 ghost use Prim.Native.Nat.{_+_, _≤_, _<_};
+ghost use lib.ListN.{length};
 ghost use Rattle.base.specs.Keyed.{at};
 ghost use Rattle.profile.specs.Profile.{verdict};
 ghost use Rattle.lookup.specs.Lookup.{transportsOf, merged};
 ghost use Rattle.protocol.specs.Protocol.{transportNote};
 ghost use Rattle.drivers.specs.Talk.{got};
 ghost use Rattle.drivers.specs.Shown.{shown};
-ghost use Rattle.definition.specs.Lamps.{isPlayer, lampFor, pushBound};
+ghost use Rattle.definition.specs.Lamps.{isPlayer, met, lampFor, pushBound};
 ghost use Rattle.transport.specs.Known.{playerOf, seenPlayers, meeting};
-
-// A player and whether it said yes or no.
-pub struct Player {
-    pub driver: u8,
-    pub target: u16,
-    pub there: bool,
-}
-
-pub struct Players {
-    pub list: [Player; 32],
-    pub count: usize,
-}
 
 struct Met {
     io: Io,
-    players: Players,
+    count: usize,
 }
 
-fn no_players() -> Players
-    ensures { λ r. ⌜ r .count ≡ 0 ⌝ }
+// A player and whether it said yes or no, as one number: the driver, the target in 16 bits, and in the last bit the answer. A number and no struct: an array
+// of structs cannot be lent, and one that is handed on is copied at each button.
+fn player(c: Command, there: bool) -> u32
+    ensures { λ r. ⌜ playerOf r ≡ met c there ⌝ }
 {
-    let p = Player {
-        driver: 0,
-        target: 0,
-        there: false,
-    };
-    let list = [p; 32];
-    Players {
-        list: list,
-        count: 0,
+    let who = (c.driver as u32 * 65536 + c.target as u32) * 2;
+    if there {
+        return who + 1;
     }
+    who
 }
 
-fn is_player(p: Player, c: Command) -> bool
+fn is_player(p: u32, c: Command) -> bool
     ensures { λ r. ⌜ r ≡ isPlayer c (playerOf p) ⌝ }
 {
-    (p.driver == c.driver) & (p.target == c.target)
+    (p / 131072 == c.driver as u32) & (p / 2 % 65536 == c.target as u32)
 }
 
-// A player that is not known yet is asked, and comes behind the others; k is where the scan of the known players ended.
+// A player that is not known yet is asked, and comes behind the others; k is where the scan of the known players ended. How many are known then.
 fn meet(
     answers: &[u8],
     calls: &mut [u8; 5392],
     messages: &mut [u8; 306],
     io: Io,
-    players: Players,
+    players: &mut [u32; 32],
+    count: usize,
     k: usize,
     c: Command,
 ) -> Met
-    requires { ⌜ players .count < 32 ⌝ }
-    requires { ⌜ k ≡ at (isPlayer c) (seenPlayers players) ⌝ }
-    ensures { λ r. ⌜ got (seenPlayers (r .players)) (shown (now (answers .entry)) (r .io) (now (calls .exit)) (now (messages .exit))) ≡ meeting c (seenPlayers players) (shown (now (answers .entry)) io (now (calls .entry)) (now (messages .entry))) ⌝ }
-    ensures { λ r. ⌜ (k < r .players .count) × (r .players .count ≤ players .count + 1) ⌝ }
+    requires { ⌜ count < 32 ⌝ }
+    requires { ⌜ k ≡ at (isPlayer c) (seenPlayers count (now players)) ⌝ }
+    ensures { λ r. ⌜ got (seenPlayers (r .count) (now (players .exit))) (shown (now (answers .entry)) (r .io) (now (calls .exit)) (now (messages .exit))) ≡ meeting c (seenPlayers count (now (players .entry))) (shown (now (answers .entry)) io (now (calls .entry)) (now (messages .entry))) ⌝ }
+    ensures { λ r. ⌜ (k < r .count) × (r .count ≤ count + 1) × (length (now (players .exit)) ≡ 32) ⌝ }
 {
-    if k < players.count {
+    let ps: &mut [u32] = players;
+    if k < count {
         return Met {
             io: io,
-            players: players,
+            count: count,
         };
     }
     let g = drivers::playing(answers, calls, messages, io, c.driver, c.target);
     let u = g.io;
-    let p = Player {
-        driver: c.driver,
-        target: c.target,
-        there: g.ok,
-    };
-    let mut t = players;
-    t.list[k] = p;
-    t.count = k + 1;
-    Met { io: u, players: t }
+    ps[k] = player(c, g.ok);
+    Met {
+        io: u,
+        count: k + 1,
+    }
 }
 
 // The lamp of one bound button. A kind without a lamp asks nobody.
@@ -94,28 +78,33 @@ fn push_bound(
     calls: &mut [u8; 5392],
     messages: &mut [u8; 306],
     io: Io,
-    players: Players,
+    players: &mut [u32; 32],
+    count: usize,
     k: usize,
     e: Entry,
 ) -> Met
-    requires { ⌜ players .count < 32 ⌝ }
-    requires { ⌜ k ≡ at (isPlayer (e .command)) (seenPlayers players) ⌝ }
-    ensures { λ r. ⌜ got (seenPlayers (r .players)) (shown (now (answers .entry)) (r .io) (now (calls .exit)) (now (messages .exit))) ≡ lampFor (transportNote (e .kind)) (e .command) (seenPlayers players) (shown (now (answers .entry)) io (now (calls .entry)) (now (messages .entry))) ⌝ }
-    ensures { λ r. ⌜ r .players .count ≤ players .count + 1 ⌝ }
+    requires { ⌜ count < 32 ⌝ }
+    requires { ⌜ k ≡ at (isPlayer (e .command)) (seenPlayers count (now players)) ⌝ }
+    ensures { λ r. ⌜ got (seenPlayers (r .count) (now (players .exit))) (shown (now (answers .entry)) (r .io) (now (calls .exit)) (now (messages .exit))) ≡ lampFor (transportNote (e .kind)) (e .command) (seenPlayers count (now (players .entry))) (shown (now (answers .entry)) io (now (calls .entry)) (now (messages .entry))) ⌝ }
+    ensures { λ r. ⌜ (r .count ≤ count + 1) × (length (now (players .exit)) ≡ 32) ⌝ }
 {
+    // Lent as a slice, the players are known to have all their places.
+    let ps: &[u32] = players;
     let Found::At(note) = protocol::transport_note(e.kind) else {
         return Met {
             io: io,
-            players: players,
+            count: count,
         };
     };
     let c = e.command;
-    let m = meet(answers, calls, messages, io, players, k, c);
+    let m = meet(answers, calls, messages, io, players, count, k, c);
     let u = m.io;
-    let t = m.players;
-    let p = t.list[k];
-    let v = drivers::send_led(answers, calls, messages, u, note, p.there);
-    Met { io: v, players: t }
+    let p = players[k];
+    let v = drivers::send_led(answers, calls, messages, u, note, p % 2 == 1);
+    Met {
+        io: v,
+        count: m.count,
+    }
 }
 
 // Lights a transport button while its player is there, and leaves it dark while the app is closed.
@@ -130,28 +119,27 @@ pub fn push_transport(
     requires { ⌜ verdict (now profile) ≡ 0 ⌝ }
     ensures { λ r. ⌜ shown (now (answers .entry)) r (now (calls .exit)) (now (messages .exit)) ≡ pushBound (merged (transportsOf (now (profile .entry)) 255) (transportsOf (now (profile .entry)) bank)) [] (shown (now (answers .entry)) io (now (calls .entry)) (now (messages .entry))) ⌝ }
 {
-    let bound = lookup::transports(profile, bank);
-    let n = bound.count;
-    let mut known = no_players();
+    let mut bound = [0u16; 32];
+    let n = lookup::transports(profile, bank, &mut bound);
+    let mut known = [0u32; 32];
+    let mut there: usize = 0;
     let mut w = io;
     let mut i: usize = 0;
     while i < n {
-        let e = bound.list[i];
+        let e = lookup::entry_at(profile, bound[i]);
         let c = e.command;
-        let there = known.count;
         let mut k: usize = 0;
         'players: while k < there {
-            let p = known.list[k];
+            let p = known[k];
             if is_player(p, c) {
                 break 'players;
             }
             k += 1;
         }
-        let m = push_bound(answers, calls, messages, w, known, k, e);
+        let m = push_bound(answers, calls, messages, w, &mut known, there, k, e);
         let u = m.io;
-        let t = m.players;
         w = u;
-        known = t;
+        there = m.count;
         i += 1;
     }
     w

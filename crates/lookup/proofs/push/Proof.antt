@@ -1,29 +1,29 @@
 -- `lookup::push` meets its contract. Assumes nothing.
 use Prim.Native.Nat.{_<_}
-use mathlib.Core.Path.{_≡_, refl}
+use mathlib.Core.Path.{_≡_, refl, _∙_}
 use native.Mathlib.Numerals.{add-one}
 use native.Mathlib.Omega.{arith}
-use lib.ListN.{length}
-use borrow.Author.Needs.{needs}
-use Rattle.base.specs.KeyedLaws as laws
+use lib.ListN.{length, length-set}
 use lib.Seq.{take-suc-set}
+use borrow.Author.Needs.{needs}
 use Rattle.lookup.proofs.push.Statement.{statement}
 use Rattle.lookup.proofs.push.Tie as tie
 
-mul-e : tie.Need-mul-e
-mul-e c = search needs
+mul-ks : tie.Need-mul-ks
+mul-ks c = search needs
 
-element-set-from-e : tie.Need-element-set-from-e
-element-set-from-e c = search needs
+slice-write-ks : tie.Need-slice-write-ks
+slice-write-ks c = search needs
 
-add-t : tie.Need-add-t
-add-t c = search needs
+add-result : tie.Need-add-result
+add-result c = search needs
 
 returns : tie.Need-returns
-returns c = let s = c .args .entries in
-    let l : length (s .list) ≡ 32 = search laws.long in
-    let h : s .count < length (s .list) = omega arith in
-    (refl, rw add-one (take-suc-set (s .list) (s .count) (c .args .e) h))
+returns c =
+    let a = c .before .args in
+    let l : length (a .list .now) ≡ 32 = c .ks .given .0 .1 in
+    let h : a .n < length (a .list .now) = omega (arith, c .before .pre) in
+    (refl, rw add-one (take-suc-set (a .list .now) (a .n) (a .k) h), length-set (a .list .now) (a .n) (a .k) ∙ l)
 
 pub push-spec : {M : Type 1} → statement M
-push-spec = tie.close (tie.spec mul-e element-set-from-e add-t returns)
+push-spec = tie.close (tie.spec mul-ks slice-write-ks add-result returns)

@@ -29,6 +29,8 @@ use Rattle.after.specs.After.{leftOf}
 use Rattle.bridge.specs.Which.{isTick, pressIn, bankBy}
 use Rattle.after.specs.declared.Setting.{Setting}
 use Rattle.delivery.specs.Delivery.{outcomeOf, isDone, messagesAfter, callsAfter, endOf}
+use Rattle.delivery.specs.declared.Outcome.{Outcome}
+use Rattle.delivery.specs.declared.Outcome.the-variants as outcome
 use Rattle.bridge.specs.declared.Stepped as declared
 use Rattle.bridge.specs.declared.Talked as talked
 
@@ -39,6 +41,17 @@ abbrev pub AtMost : Ended → Type 0
 AtMost (done ms cs used saved) = (length ms ≤ 102) × (length cs ≤ 337)
 AtMost (refused why) = Unit {0}
 AtMost (waiting c) = Unit {0}
+
+-- the same of the outcome's counts, and how many answers, records of 16 bytes, it says were used
+abbrev pub Few : Outcome → Type 0
+Few (outcome.Done ms cs used saved) = (ms ≤ 102) × (cs ≤ 337)
+Few (outcome.Refused why) = Unit {0}
+Few (outcome.Waiting c) = Unit {0}
+
+abbrev pub usedIn : Outcome → ℕ
+usedIn (outcome.Done ms cs used saved) = used
+usedIn (outcome.Refused why) = 0
+usedIn (outcome.Waiting c) = 0
 
 -- d is the definition's event, s the session and ms, cs the lent buffers before it; r is what is returned, ms₁ and cs₁ the buffers after it.
 -- "after a numbered refusal or a wait for an answer they and the session are untouched"

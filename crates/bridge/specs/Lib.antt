@@ -2,3 +2,4 @@ pub mod Presses
 pub mod Which
 pub mod Acts
 pub mod Bridge
+pub mod CountsLaws

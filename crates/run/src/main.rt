@@ -1,10 +1,12 @@
 // The program of document 01: profile.bin, events.bin and answers.bin, the first 65,536 bytes of each, and what becomes of each event.
 //
-// The bridge promises its counts, as it promises all that it does. The program is proved without these promises: it takes no more of a buffer than
-// there is.
+// The program is proved by what the bridge promises of an outcome's counts: its messages and calls have room in the text, and the answers that it used
+// are among those that it was handed.
 ghost use Prim.Native.Nat.{_+_, _*_, _≤_, _<_};
+ghost use mathlib.Core.Path.{_≡_};
 ghost use lib.ListN.{length};
 ghost use Rattle.io.specs.Counts.{Counts};
+ghost use Rattle.bridge.specs.Bridge.{Few, usedIn};
 use delivery::Outcome;
 use session::Session;
 
@@ -57,6 +59,8 @@ fn show_done(n: usize, messages: &[u8], sent: usize, calls: &[u8], asked: usize)
 fn show_outcome(n: usize, outcome: Outcome, messages: &[u8], calls: &[u8]) -> Said
     requires { ⌜ 306 ≤ length (now messages) ⌝ }
     requires { ⌜ 5392 ≤ length (now calls) ⌝ }
+    requires { ⌜ Few outcome ⌝ }
+    ensures { λ r. ⌜ r .used ≡ usedIn outcome ⌝ }
 {
     match outcome {
         Outcome::Done {
@@ -65,9 +69,7 @@ fn show_outcome(n: usize, outcome: Outcome, messages: &[u8], calls: &[u8]) -> Sa
             used,
             saved: _,
         } => {
-            let m = printing::within(sent, 102);
-            let c = printing::within(asked, 337);
-            show_done(n, messages, m, calls, c);
+            show_done(n, messages, sent, calls, asked);
             Said {
                 goes: true,
                 used: used,
@@ -91,7 +93,9 @@ fn show_outcome(n: usize, outcome: Outcome, messages: &[u8], calls: &[u8]) -> Sa
 }
 
 // Runs event n.
-fn one(n: usize, session: Session, profile: &[u8], event: &[u8], answers: &[u8]) -> Next {
+fn one(n: usize, session: Session, profile: &[u8], event: &[u8], answers: &[u8]) -> Next
+    ensures { λ r. ⌜ 16 * r .said .used ≤ length (now (answers .entry)) ⌝ }
+{
     let mut messages = [0u8; 306];
     let mut calls = [0u8; 5392];
     let r = bridge::step(session, profile, event, answers, &mut messages, &mut calls);
@@ -116,14 +120,7 @@ fn end_of(from: usize, length: usize) -> usize
     length
 }
 
-// Where the first unread answer stands after an event that started to read at `read`.
-fn unread(read: usize, used: usize, length: usize) -> usize
-    requires { ⌜ read ≤ length ⌝ }
-    ensures { λ r. ⌜ r ≤ length ⌝ }
-{
-    read + 16 * printing::within(used, (length - read) / 16)
-}
-
+// Runs the events in turn, each on the answers that those before it left.
 fn all(profile: &[u8], events: &[u8], answers: &[u8]) {
     let mut s = session::fresh();
     let mut from: usize = 0;
@@ -138,7 +135,7 @@ fn all(profile: &[u8], events: &[u8], answers: &[u8]) {
         }
         s = r.session;
         from = to;
-        read = unread(read, t.used, answers.len());
+        read += 16 * t.used;
         n += 1;
     }
 }

@@ -1,9 +1,23 @@
 -- `run::all` meets its contract. Assumes nothing.
-use Prim.Native.Nat.{_≤_, _-_}
-use lib.ListN.{length}
+use Prim.Native.Nat.{ℕ, _^_, _+_, _-_, _≤_, _<_}
+use mathlib.Core.List.{List}
+use native.Mathlib.Omega.{arith}
+use lib.ListN.{length, take, drop, length-take, length-drop}
+use mir.Syntax.{w64}
+use mir.Val.{Fits}
 use borrow.Author.Needs.{needs}
 use Rattle.run.proofs.all.Statement.{statement}
 use Rattle.run.proofs.all.Tie as tie
+
+-- n bytes of what stands from k on: where they end is in the list
+abbrev IsPart : List ℕ → ℕ → ℕ → Type 0
+IsPart xs k n = n ≤ length (take (length xs - k) (drop k xs))
+
+rest : (xs : List ℕ) (k n : ℕ) → k ≤ length xs → IsPart xs k n → k + n ≤ length xs
+rest xs k n h m = omega (arith, length-take (length xs - k) (drop k xs), length-drop k xs)
+
+part-fits : (xs : List ℕ) (k n : ℕ) → length xs < 2 ^ 64 → k ≤ length xs → IsPart xs k n → Fits w64 n
+part-fits xs k n l h m = record { fits = omega (arith, rest xs k n h m) }
 
 abbrev Inv-loop : tie.InvT-loop
 Inv-loop profile events answers s₀ from₀ read₀ n₀ s from read n = (from ≤ length events) × (read ≤ length answers) × (n ≤ from)
@@ -44,8 +58,19 @@ one-requires c κs = search needs
 returns : tie.Need-returns Inv-loop μ-loop
 returns c = search needs
 
-unread-requires : tie.Need-unread-requires Inv-loop μ-loop
-unread-requires c κs = search needs
+mul-read : tie.Need-mul-read Inv-loop μ-loop
+mul-read c =
+    let b = c .before .before .before .before .before in
+    let l = b .before .before .before .before .before in
+    let a = l .before .before .before .before .before in
+    part-fits (a .args .answers .now) (l .loop .read) _ (a .good .1 .1 .0 .0) (l .loop .inv .1) (b .one .ensures)
+
+add-read : tie.Need-add-read Inv-loop μ-loop
+add-read c =
+    let b = c .before .before .before .before .before in
+    let l = b .before .before .before .before .before in
+    let a = l .before .before .before .before .before in
+    omega (arith, rest (a .args .answers .now) (l .loop .read) _ (l .loop .inv .1) (b .one .ensures), a .good .1 .1 .0 .0)
 
 add-n : tie.Need-add-n Inv-loop μ-loop
 add-n c = search needs
@@ -54,7 +79,11 @@ loop-less : tie.Need-loop-less Inv-loop μ-loop
 loop-less c = search needs
 
 loop-again : tie.Need-loop-again Inv-loop μ-loop
-loop-again c = search needs
+loop-again c =
+    let b = c .before .before .before .before .before in
+    let l = b .before .before .before .before .before in
+    let a = l .before .before .before .before .before in
+    search (needs, rest (a .args .answers .now) (l .loop .read) _ (l .loop .inv .1) (b .one .ensures))
 
 returns-2 : tie.Need-returns-2 Inv-loop μ-loop
 returns-2 c = search needs
@@ -76,7 +105,8 @@ all-spec =
     part-one-end-2
     one-requires
     returns
-    unread-requires
+    mul-read
+    add-read
     add-n
     loop-less
     loop-again

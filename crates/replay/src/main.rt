@@ -1,8 +1,8 @@
 // Prints what becomes of each case of a recording, as the oracle's `replay` does: replay [--dump] <RECORDING. A recording that is cut off, or has a part
 // for which there is no room here, ends the program there.
 //
-// The bridge promises its counts, as it promises all that it does. The program is proved without these promises: it takes no more of a buffer than
-// there is.
+// The program is proved by what the bridge promises of an outcome's counts, and by how many saved records there can be: they have room in the text. A
+// number of the recording is held to the room that there is, and so is a session's count.
 mod show;
 mod view;
 
@@ -66,7 +66,7 @@ fn show_saved(saved: bool, s: Session, profile: &[u8]) {
     }
     let mut bytes = [0u8; 136];
     let kept = state::saved_records(s, profile, &mut bytes);
-    show::saved(&bytes, printing::within(kept.count, 17));
+    show::saved(&bytes, kept.count);
 }
 
 fn one_event(

@@ -2,6 +2,7 @@
 ghost use Prim.Native.Nat.{_+_, _*_, _≤_};
 ghost use mathlib.Core.Path.{_≡_};
 ghost use lib.ListN.{length};
+ghost use Rattle.bridge.specs.Bridge.{Few};
 use delivery::Outcome;
 
 pub fn case(id: usize) {
@@ -46,7 +47,9 @@ fn done(
 }
 
 // Says what became of event n. Whether it saved.
-pub fn outcome(n: usize, outcome: Outcome, messages: &[u8; 306], calls: &[u8; 5392]) -> bool {
+pub fn outcome(n: usize, outcome: Outcome, messages: &[u8; 306], calls: &[u8; 5392]) -> bool
+    requires { ⌜ Few outcome ⌝ }
+{
     match outcome {
         Outcome::Done {
             messages: sent,
@@ -54,9 +57,7 @@ pub fn outcome(n: usize, outcome: Outcome, messages: &[u8; 306], calls: &[u8; 53
             used,
             saved,
         } => {
-            let m = printing::within(sent, 102);
-            let c = printing::within(asked, 337);
-            done(n, messages, m, calls, c, used, saved);
+            done(n, messages, sent, calls, asked, used, saved);
             saved
         }
         Outcome::Refused(why) => {

@@ -2,6 +2,7 @@
 use borrow.Table.Elements.{length-take-le}
 use mathlib.Core.Path.{sym}
 use borrow.Author.Needs.{needs}
+use Rattle.bridge.specs.CountsLaws.{delivers-few}
 use Rattle.replay.proofs.one_event.Statement.{statement}
 use Rattle.replay.proofs.one_event.Tie as tie
 
@@ -27,7 +28,7 @@ step-requires : tie.Need-step-requires
 step-requires c κs = search needs
 
 outcome-requires : tie.Need-outcome-requires
-outcome-requires c κs = search needs
+outcome-requires c κs = delivers-few _ _ _ _ _ _ _ _ (c .before .before .before .before .before .step .ensures)
 
 show-saved-requires : tie.Need-show-saved-requires
 show-saved-requires c κs = search needs

@@ -9,7 +9,7 @@ use drivers::Call;
 
 // ── counts ──
 
-// A count that a buffer holds, whatever was promised of it.
+// A number, held to what there is room for.
 pub fn within(n: usize, most: usize) -> usize
     ensures { λ r. ⌜ r ≤ most ⌝ }
 {

@@ -180,8 +180,26 @@ fn on_encoder(session: Session, profile: &[u8], channel: u8, delta: i32) -> Step
         sums: sums,
         count: count,
     };
-    let mut t = session;
-    t.turns = turned;
+    let live = session.live;
+    let marks = session.marks;
+    let moves = session.moves;
+    let line = session.line;
+    let lamps = session.lamps;
+    let silenced = session.silenced;
+    let opened = session.opened;
+    let t = Session {
+        bank: session.bank,
+        livedue: session.livedue,
+        liveat: session.liveat,
+        live: live,
+        marks: marks,
+        moves: moves,
+        line: line,
+        turns: turned,
+        lamps: lamps,
+        silenced: silenced,
+        opened: opened,
+    };
     let o = nothing();
     Stepped {
         outcome: o,
@@ -581,7 +599,23 @@ pub fn step(
             session: session,
         };
     }
-    if !shape::shaped(session, profile) {
+    let line = session.line;
+    let live = session.live;
+    let turns = session.turns;
+    let silenced = session.silenced;
+    let targets = silenced.targets;
+    let lamps = session.lamps;
+    let flash = lamps.flash;
+    if !shape::shaped_parts(
+        profile,
+        session.bank,
+        line,
+        live,
+        turns,
+        &targets,
+        silenced.count,
+        flash,
+    ) {
         return Stepped {
             outcome: Outcome::Refused(8),
             session: session,

@@ -4,7 +4,6 @@ use session::Flash;
 use session::Line;
 use session::Live;
 use session::Session;
-use session::Silenced;
 use session::Strips;
 use session::Turns;
 ghost use mathlib.Core.Path.{_≡_};
@@ -15,7 +14,8 @@ ghost use lib.ListN.{take};
 ghost use Rattle.base.specs.Keyed.{allOf, noTwice};
 ghost use Rattle.session.specs.Session.{isEncoder};
 ghost use Rattle.definition.specs.Faders.{inRange};
-ghost use Rattle.definition.specs.Shape.{shapedLine, shapedStrips, sameWire, shapedTurns, shapedSilenced, shapedFlash, wellShaped};
+ghost use Rattle.definition.specs.Shape.{shapedLine, shapedStrips, sameWire, shapedTurns, shapedFlash, wellShaped};
+ghost use Rattle.shape.specs.Parts.{TellsHushed, Tells};
 
 // ── the line ──
 
@@ -194,15 +194,13 @@ fn no_target_twice(targets: &[u16; 256], n: usize) -> bool
     true
 }
 
-fn shaped_silenced(silenced: Silenced) -> bool
-    ensures { λ r. ⌜ r ≡ shapedSilenced silenced ⌝ }
+fn shaped_silenced(targets: &[u16; 256], n: usize) -> bool
+    ensures { λ r. ⌜ TellsHushed r (now (targets .entry)) n ⌝ }
 {
-    let n = silenced.count;
     if 256 < n {
         return false;
     }
-    let targets = silenced.targets;
-    no_target_twice(&targets, n)
+    no_target_twice(targets, n)
 }
 
 // ── the flash ──
@@ -220,31 +218,57 @@ fn shaped_flash(flash: Flash) -> bool
 
 // ── all of it ──
 
-// The bank is there, and the line, the live lists, the sums, the silenced levels and the flash are well shaped.
-pub fn shaped(session: Session, profile: &[u8]) -> bool
-    ensures { λ r. ⌜ r ≡ wellShaped (now (profile .entry)) session ⌝ }
+// The bank is there, and the line, the live lists, the sums, the silenced levels and the flash are well shaped. It is told the parts that it looks at: a
+// session that is handed on is copied whole.
+pub fn shaped_parts(
+    profile: &[u8],
+    bank: u8,
+    line: Line,
+    live: Live,
+    turns: Turns,
+    targets: &[u16; 256],
+    hushed: usize,
+    flash: Flash,
+) -> bool
+    ensures { λ r. ⌜ Tells r (now (profile .entry)) bank line live turns (now (targets .entry)) hushed flash ⌝ }
 {
-    let bank = session.bank as usize;
-    if !lookup::has_bank(profile, bank) {
+    if !lookup::has_bank(profile, bank as usize) {
         return false;
     }
-    let line = session.line;
     if !shaped_line(line) {
         return false;
     }
-    let live = session.live;
     if !shaped_live(live) {
         return false;
     }
-    let turns = session.turns;
     if !shaped_turns(profile, turns) {
         return false;
     }
-    let silenced = session.silenced;
-    if !shaped_silenced(silenced) {
+    if !shaped_silenced(targets, hushed) {
         return false;
     }
+    shaped_flash(flash)
+}
+
+// The same of a whole session.
+pub fn shaped(session: Session, profile: &[u8]) -> bool
+    ensures { λ r. ⌜ r ≡ wellShaped (now (profile .entry)) session ⌝ }
+{
+    let line = session.line;
+    let live = session.live;
+    let turns = session.turns;
+    let silenced = session.silenced;
+    let targets = silenced.targets;
     let lamps = session.lamps;
     let flash = lamps.flash;
-    shaped_flash(flash)
+    shaped_parts(
+        profile,
+        session.bank,
+        line,
+        live,
+        turns,
+        &targets,
+        silenced.count,
+        flash,
+    )
 }

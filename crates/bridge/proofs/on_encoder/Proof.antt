@@ -118,7 +118,7 @@ nothing-requires-2 c κs = search needs
 
 returns-3 : tie.Need-returns-3
 returns-3 c =
-    let u = c .before in
+    let u = c .before .before .before .before .before .before .before .before in
     let t = u .before .before .before .before in
     let k = t .before .before .before .before .before .before in
     let b = k .before .before .before .before .before in

@@ -1,10 +1,12 @@
 -- `bridge::step` meets its contract. Assumes nothing.
 use Prim.Native.Nat.{ℕ}
 use native.Mathlib.Omega.{arith}
-use mathlib.Core.Path.{_≡_, sym, _∙_}
+use mathlib.Core.Path.{_≡_, refl, sym, _∙_}
 use lib.ListN.{length}
 use borrow.Author.Tests.{not-true, not-false, eq-eqb, ne-eqb}
+use Rattle.base.specs.KeyedLaws.{long}
 use Rattle.bounds.specs.Channels.{read-low}
+use Rattle.definition.specs.Shape.{wellShaped}
 use Rattle.definition.specs.Whole.{whole}
 use Rattle.delivery.specs.declared.Outcome.the-variants as outcome
 use Rattle.bridge.specs.Bridge.{Delivers, declinedOf}
@@ -16,6 +18,27 @@ use Rattle.bridge.proofs.step.Tie as tie
 -- where the profile was examined, the event's start
 abbrev begun : tie.After-examine → tie.Start
 begun x = x .before .before .before .before .before .before
+
+-- where the session's shape was tested, the profile's examination
+abbrev examined : tie.After-shaped-parts → tie.After-examine
+examined x = x .before .before .before .before .before .before .before .before .before .before
+
+levels-long : (c : tie.Start) → length (c .args .session .silenced .levels) ≡ 256
+levels-long c = search (long, c .good .0 .1 .1 .1 .1 .1 .1 .1 .1 .1 .1 .1 .0)
+
+-- the test says of the session whether it is well shaped
+told : (x : tie.After-shaped-parts) → let b = begun (examined x) in x .shaped-parts .result ≡ wellShaped (b .args .profile .now) (b .args .session)
+told x =
+    let b = begun (examined x) in
+    x .shaped-parts .ensures (b .args .session)
+    (record {
+      bank = refl;
+      line = refl;
+      live = refl;
+      turns = refl;
+      silenced = record { targets = refl; count = refl; long = levels-long b };
+      flash = refl;
+    })
 
 -- what the numbers 1 to 9 say of the event
 abbrev numberOf : tie.After-examine → ℕ
@@ -35,13 +58,13 @@ declined-by x why q n =
     declines _ why _ _ _ _ (whole-declines (b .args .profile .now) (b .args .session) (b .args .event .now) (b .args .answers .now) _ _ why q n)
 
 -- one that none of them declines
-passed : (r : tie.After-read-event) → numberOf (r .before .before .before .before .before) ≡ 0
+passed : (r : tie.After-read-event) → numberOf (examined (r .before .before .before)) ≡ 0
 passed r =
+    let x = r .before .before .before in
     rw (
-      ← r .before .before .before .before .before .examine .ensures,
-      eq-eqb _ _ (r .before .before .before .before .if1 .left),
-      ← r .before .before .before .shaped .ensures,
-      not-false (r .before .before .before .shaped .result) (r .before .before .if2 .left),
+      ← examined x .examine .ensures,
+      eq-eqb _ _ (x .before .before .before .before .before .before .before .before .before .if1 .left),
+      sym (told x) ∙ not-false (x .shaped-parts .result) (r .before .before .if2 .left),
       r .before .if3 .left,
     )
 
@@ -51,23 +74,24 @@ examine-requires c κs = search needs
 returns : tie.Need-returns
 returns c = declined-by (c .before) _ (rw (← c .before .examine .ensures, ne-eqb _ _ (c .if1 .taken))) (c .if1 .taken)
 
-shaped-requires : tie.Need-shaped-requires
-shaped-requires c κs = search needs
+shaped-parts-requires : tie.Need-shaped-parts-requires
+shaped-parts-requires c κs = search needs
 
 returns-2 : tie.Need-returns-2
 returns-2 c =
-    declined-by (c .before .before .before) 8
-    (rw (← c .before .before .before .examine .ensures, eq-eqb _ _ (c .before .before .if1 .left), ← c .before .shaped .ensures, not-true (c .before .shaped .result) (c .if2 .taken)))
+    let x = c .before in
+    declined-by (examined x) 8
+    (rw (← examined x .examine .ensures, eq-eqb _ _ (x .before .before .before .before .before .before .before .before .before .if1 .left), sym (told x) ∙ not-true (x .shaped-parts .result) (c .if2 .taken)))
     (λ q. omega arith)
 
 returns-3 : tie.Need-returns-3
 returns-3 c =
-    declined-by (c .before .before .before .before) 9
+    let x = c .before .before in
+    declined-by (examined x) 9
     (rw (
-      ← c .before .before .before .before .examine .ensures,
-      eq-eqb _ _ (c .before .before .before .if1 .left),
-      ← c .before .before .shaped .ensures,
-      not-false (c .before .before .shaped .result) (c .before .if2 .left),
+      ← examined x .examine .ensures,
+      eq-eqb _ _ (x .before .before .before .before .before .before .before .before .before .if1 .left),
+      sym (told x) ∙ not-false (x .shaped-parts .result) (c .before .if2 .left),
       c .if3 .taken,
     )) (λ q. omega arith)
 
@@ -80,7 +104,7 @@ enum-known-e c = search needs
 on-event-requires : tie.Need-on-event-requires
 on-event-requires c κs =
     let r = c .before .before .before .before .before in
-    let b = begun (r .before .before .before .before .before) in
+    let b = begun (examined (r .before .before .before)) in
     let w = passes (b .args .profile .now) (b .args .session) (b .args .event .now) (b .args .answers .now) _ _ (passed r) in (
       w .accepted,
       (
@@ -89,7 +113,7 @@ on-event-requires c κs =
           w .messages,
           (
             w .calls,
-            read-low (b .args .event .now) (λ j. omega (arith, c .before .before .before .before .before .before .before .before .before .before .before .before .before .before .shared-slice-known2 .given j)) _ (sym (r .read-event .ensures) ∙ c .before .before .before .e .given .1),
+            read-low (b .args .event .now) (λ j. omega (arith, c .before .before .before .before .before .before .before .before .before .before .before .before .before .before .before .before .before .before .before .before .before .before .shared-slice-known2 .given j)) _ (sym (r .read-event .ensures) ∙ c .before .before .before .e .given .1),
           ),
         ),
       ),
@@ -107,14 +131,14 @@ same-length-2 c = search needs
 returns-4 : tie.Need-returns-4
 returns-4 c =
     let r = c .before .before .before .before .before .before .before .before .before .before in
-    let b = begun (r .before .before .before .before .before) in
+    let b = begun (examined (r .before .before .before)) in
     passes-on (b .args .profile .now) (b .args .session) (b .args .event .now) (b .args .answers .now) _ _ (passed r) (r .read-event .result) _ (r .read-event .ensures)
     (c .before .before .before .before .before .before .before .before .e .given .1) _ _ _ _ _ (c .before .before .before .before .on-event .ensures)
 
 returns-5 : tie.Need-returns-5
 returns-5 c =
     let r = c .before .before in
-    let b = begun (r .before .before .before .before .before) in
+    let b = begun (examined (r .before .before .before)) in
     declines _ 10 _ _ _ _
     (unread (b .args .profile .now) (b .args .session) (b .args .event .now) (b .args .answers .now) _ _ (passed r) (r .read-event .result) (r .read-event .ensures)
     (c .enum-told .given .1))
@@ -125,7 +149,7 @@ step-spec =
     (tie.spec
     examine-requires
     returns
-    shaped-requires
+    shaped-parts-requires
     returns-2
     returns-3
     read-event-requires

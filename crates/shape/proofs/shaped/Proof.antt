@@ -1,100 +1,29 @@
-use mathlib.Core.Path.{sym, _∙_}
-use borrow.Author.Tests.{not-true, not-false}
-use Rattle.base.specs.Range.{every}
-use Rattle.definition.specs.Shape.{wellShaped}
+-- `shape::shaped` meets its contract. Assumes nothing.
+use mathlib.Core.Path.{_≡_, refl}
+use lib.ListN.{length}
+use Rattle.base.specs.KeyedLaws.{long}
 use borrow.Author.Needs.{needs}
 use Rattle.shape.proofs.shaped.Statement.{statement}
 use Rattle.shape.proofs.shaped.Tie as tie
 
-cast-bank : tie.Need-cast-bank
-cast-bank c = search needs
+levels-long : (c : tie.Start) → length (c .args .session .silenced .levels) ≡ 256
+levels-long c = search (long, c .good .0 .1 .1 .1 .1 .1 .1 .1 .1 .1 .1 .1 .0)
 
-has-bank-requires : tie.Need-has-bank-requires
-has-bank-requires c κs = search needs
+shaped-parts-requires : tie.Need-shaped-parts-requires
+shaped-parts-requires c κs = search needs
 
 returns : tie.Need-returns
-unfolding wellShaped every
-returns c = rw (sym (c .before .has-bank .ensures) ∙ not-true (c .before .has-bank .result) (c .if1 .taken))
-
-shaped-line-requires : tie.Need-shaped-line-requires
-shaped-line-requires c κs = search needs
-
-returns-2 : tie.Need-returns-2
-unfolding wellShaped every
-returns-2 c =
-    rw (
-      sym (c .before .before .before .before .has-bank .ensures) ∙ not-false (c .before .before .before .before .has-bank .result) (c .before .before .before .if1 .left),
-      sym (c .before .shaped-line .ensures) ∙ not-true (c .before .shaped-line .result) (c .if2 .taken),
-    )
-
-shaped-live-requires : tie.Need-shaped-live-requires
-shaped-live-requires c κs = search needs
-
-returns-3 : tie.Need-returns-3
-unfolding wellShaped every
-returns-3 c =
-    rw (
-      sym (c .before .before .before .before .before .before .before .has-bank .ensures) ∙ not-false (c .before .before .before .before .before .before .before .has-bank .result) (c .before .before .before .before .before .before .if1 .left),
-      sym (c .before .before .before .before .shaped-line .ensures) ∙ not-false (c .before .before .before .before .shaped-line .result) (c .before .before .before .if2 .left),
-      sym (c .before .shaped-live .ensures) ∙ not-true (c .before .shaped-live .result) (c .if3 .taken),
-    )
-
-shaped-turns-requires : tie.Need-shaped-turns-requires
-shaped-turns-requires c κs = search needs
-
-returns-4 : tie.Need-returns-4
-unfolding wellShaped every
-returns-4 c =
-    rw (
-      sym (c .before .before .before .before .before .before .before .before .before .before .has-bank .ensures) ∙ not-false (c .before .before .before .before .before .before .before .before .before .before .has-bank .result) (c .before .before .before .before .before .before .before .before .before .if1 .left),
-      sym (c .before .before .before .before .before .before .before .shaped-line .ensures) ∙ not-false (c .before .before .before .before .before .before .before .shaped-line .result) (c .before .before .before .before .before .before .if2 .left),
-      sym (c .before .before .before .before .shaped-live .ensures) ∙ not-false (c .before .before .before .before .shaped-live .result) (c .before .before .before .if3 .left),
-      sym (c .before .shaped-turns .ensures) ∙ not-true (c .before .shaped-turns .result) (c .if4 .taken),
-    )
-
-shaped-silenced-requires : tie.Need-shaped-silenced-requires
-shaped-silenced-requires c κs = search needs
-
-returns-5 : tie.Need-returns-5
-unfolding wellShaped every
-returns-5 c =
-    rw (
-      sym (c .before .before .before .before .before .before .before .before .before .before .before .before .before .has-bank .ensures) ∙ not-false (c .before .before .before .before .before .before .before .before .before .before .before .before .before .has-bank .result) (c .before .before .before .before .before .before .before .before .before .before .before .before .if1 .left),
-      sym (c .before .before .before .before .before .before .before .before .before .before .shaped-line .ensures) ∙ not-false (c .before .before .before .before .before .before .before .before .before .before .shaped-line .result) (c .before .before .before .before .before .before .before .before .before .if2 .left),
-      sym (c .before .before .before .before .before .before .before .shaped-live .ensures) ∙ not-false (c .before .before .before .before .before .before .before .shaped-live .result) (c .before .before .before .before .before .before .if3 .left),
-      sym (c .before .before .before .before .shaped-turns .ensures) ∙ not-false (c .before .before .before .before .shaped-turns .result) (c .before .before .before .if4 .left),
-      sym (c .before .shaped-silenced .ensures) ∙ not-true (c .before .shaped-silenced .result) (c .if5 .taken),
-    )
-
-shaped-flash-requires : tie.Need-shaped-flash-requires
-shaped-flash-requires c κs = search needs
-
-returns-6 : tie.Need-returns-6
-unfolding wellShaped every
-returns-6 c =
-    rw (
-      sym (c .before .before .before .before .before .before .before .before .before .before .before .before .before .before .before .before .has-bank .ensures) ∙ not-false (c .before .before .before .before .before .before .before .before .before .before .before .before .before .before .before .before .has-bank .result) (c .before .before .before .before .before .before .before .before .before .before .before .before .before .before .before .if1 .left),
-      sym (c .before .before .before .before .before .before .before .before .before .before .before .before .before .shaped-line .ensures) ∙ not-false (c .before .before .before .before .before .before .before .before .before .before .before .before .before .shaped-line .result) (c .before .before .before .before .before .before .before .before .before .before .before .before .if2 .left),
-      sym (c .before .before .before .before .before .before .before .before .before .before .shaped-live .ensures) ∙ not-false (c .before .before .before .before .before .before .before .before .before .before .shaped-live .result) (c .before .before .before .before .before .before .before .before .before .if3 .left),
-      sym (c .before .before .before .before .before .before .before .shaped-turns .ensures) ∙ not-false (c .before .before .before .before .before .before .before .shaped-turns .result) (c .before .before .before .before .before .before .if4 .left),
-      sym (c .before .before .before .before .shaped-silenced .ensures) ∙ not-false (c .before .before .before .before .shaped-silenced .result) (c .before .before .before .if5 .left),
-    )
-    (c .shaped-flash .ensures)
+returns c =
+    let b = c .before .before .before .before .before .before .before .before .before .before in
+    c .shaped-parts .ensures (b .args .session)
+    (record {
+      bank = refl;
+      line = refl;
+      live = refl;
+      turns = refl;
+      silenced = record { targets = refl; count = refl; long = levels-long b };
+      flash = refl;
+    })
 
 pub shaped-spec : {M : Type 1} → statement M
-shaped-spec =
-    tie.close
-    (tie.spec
-    cast-bank
-    has-bank-requires
-    returns
-    shaped-line-requires
-    returns-2
-    shaped-live-requires
-    returns-3
-    shaped-turns-requires
-    returns-4
-    shaped-silenced-requires
-    returns-5
-    shaped-flash-requires
-    returns-6)
+shaped-spec = tie.close (tie.spec shaped-parts-requires returns)

@@ -11,18 +11,16 @@ use Rattle.shape.proofs.shaped_silenced.Tie as tie
 
 returns : tie.Need-returns
 unfolding shapedSilenced
-returns c = rw (lt-leb _ _ (c .if1 .taken))
+returns c = λ x h. rw (h .count, lt-leb _ _ (c .if1 .taken))
 
 no-target-twice-requires : tie.Need-no-target-twice-requires
 no-target-twice-requires c κs = search needs
 
 returns-2 : tie.Need-returns-2
 unfolding shapedSilenced
-returns-2 c =
-    let s = c .before .before .before .before .args .silenced in
-    let lt : length (s .targets) ≡ 256 = search laws.long in
-    let ll : length (s .levels) ≡ 256 = search laws.long in
-    rw (le-leb _ _ (c .before .before .before .if1 .left), targets-seen (s .count) (s .targets) (s .levels) (omega (arith, c .before .before .before .if1 .left))) (c .no-target-twice .ensures)
+returns-2 c = λ x h.
+    let few = c .before .if1 .left in
+    rw (h .count, le-leb _ _ few, targets-seen (c .before .before .args .n) (x .targets) (x .levels) (omega (arith, few, h .long)), h .targets) (c .no-target-twice .ensures)
 
 pub shaped-silenced-spec : {M : Type 1} → statement M
 shaped-silenced-spec = tie.close (tie.spec returns no-target-twice-requires returns-2)

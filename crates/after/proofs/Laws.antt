@@ -10,7 +10,7 @@ use lib.Ieee.{Float}
 use borrow.Author.Tests.{le-leb}
 use Rattle.base.specs.Choice.{pick}
 use Rattle.base.specs.Keyed.{allOf, beside}
-use Rattle.base.specs.KeyedLaws.{every-none}
+use Rattle.base.specs.KeyedLaws.{map-set, every-none}
 use Rattle.base.specs.Pigeon.{left-of, right-of}
 use Rattle.session.specs.Session.{isEncoder, seenLine, seenTurns, seenSilenced, seenStrips, stripsOr, stripsFor}
 use Rattle.session.specs.declared.Session.{Session}
@@ -73,11 +73,6 @@ module _ (s : Session) (opened : List Bool) (moves : Moves) (marks : Marks) (lin
       record { line = h; turns = q .turns; encoders = q .encoders; silenced = q .silenced; live = q .live }
 
 -- ── a live list that takes a bank's place ──
-
-map-set : {A B : Type 0} (f : A → B) (l : List A) (i : ℕ) (x : A) → map f (set l i x) ≡ set (map f l) i (f x)
-map-set f [] i x = refl
-map-set f (y ∷ l) zero x = refl
-map-set {B = B} f (y ∷ l) (suc i) x = ap (λ (t : List B). f y ∷ t) (map-set f l i x)
 
 all-set : {A : Type 0} (f : A → Bool) (l : List A) (i : ℕ) (x : A) → f x ≡ true → allOf f l ≡ true → allOf f (set l i x) ≡ true
 unfolding allOf

@@ -18,6 +18,12 @@ use Rattle.base.specs.Keyed.{at, find, anyOf, allOf, change, keep, noTwi
 pub long : (X Y : Type 0) (f : X → Y) (l : List X) (n : ℕ) → length (map f l) ≡ n → length l ≡ n
 long X Y f l n e = sym (length-map l f) ∙ e
 
+-- a change of one element, seen through a map
+pub map-set : {A B : Type 0} (f : A → B) (l : List A) (i : ℕ) (x : A) → map f (set l i x) ≡ set (map f l) i (f x)
+map-set f [] i x = refl
+map-set f (y ∷ l) zero x = refl
+map-set {B = B} f (y ∷ l) (suc i) x = ap (λ (t : List B). f y ∷ t) (map-set f l i x)
+
 -- an element that is there, whatever stands for none
 pub other-none : {A : Type 0} (xs : List A) (i : ℕ) (d e : A) → i < length xs → getD xs i d ≡ getD xs i e
 other-none [] i d e h = absurd (omega arith)

@@ -159,7 +159,7 @@ finish-used (waits c) v k r all h = tt
 finish-used declined v k r all h = tt
 finish-used overrun v k r all h = tt
 
-step-used : (v : View) (k : Kept) (e : Timed) (answers : List ℕ) → UsedOf (length answers) ((step v k e answers) .ended)
+pub step-used : (v : View) (k : Kept) (e : Timed) (answers : List ℕ) → UsedOf (length answers) ((step v k e answers) .ended)
 unfolding step
 step-used v k e answers = at (eqb (refusal (e .what) v k (e .time)) 0)
   where

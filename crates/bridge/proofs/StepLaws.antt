@@ -38,7 +38,7 @@ use Rattle.definition.specs.Live.{isDue}
 use Rattle.definition.specs.Shape.{wellShaped}
 use Rattle.definition.specs.Step.{Kept, kept, Left, rigNow, tick, tickWith, overfull, Ended, done, refused, waiting, Stepped, stepped, seen, act, refusal, finish, finished, stepIf, step}
 use Rattle.definition.specs.Whole.{whole, offered}
-use Rattle.bounds.specs.Room.{LowInput}
+use Rattle.bounds.specs.Room.{LowInput, FewOf}
 use Rattle.bounds.specs.Well.{Well}
 use Rattle.bounds.specs.WellRoom.{well-few}
 use Rattle.bounds.specs.WellStep.{step-well}
@@ -49,7 +49,7 @@ use Rattle.delivery.specs.declared.Outcome.the-variants as outcome
 use Rattle.bridge.specs.declared.Stepped as declared
 use Rattle.bridge.specs.declared.which.Hand.the-variants as hand
 use Rattle.bridge.specs.Which.{handOf, isTick, isNothing, runs}
-use Rattle.bridge.specs.Bridge.{AtMost, Delivers, declinedOf, isIdle, movedAt, turnedAt, Moves, Turns}
+use Rattle.bridge.specs.Bridge.{Delivers, declinedOf, isIdle, movedAt, turnedAt, Moves, Turns}
 use Rattle.bridge.proofs.Fit.{shaped-again}
 
 -- ── an event that is not refused ──
@@ -149,13 +149,13 @@ does-nothing d p s ms cs w q =
     })
 
 -- at most 102 messages and 337 calls: of an event that is not done there is nothing to count
-few-undone : (x : Ended) → isDone x ≡ false → AtMost x
+few-undone : (x : Ended) → isDone x ≡ false → FewOf x
 few-undone (done ms cs used saved) h = absurd (true≢false h)
 few-undone (refused why) h = tt
 few-undone (waiting c) h = tt
 
 few-done : (x : Ended) →
-    ((ms : List (List ℕ)) (cs : List Call) (used : ℕ) (saved : Bool) → x ≡ done ms cs used saved → (length ms ≤ 102) × (length cs ≤ 337)) → AtMost x
+    ((ms : List (List ℕ)) (cs : List Call) (used : ℕ) (saved : Bool) → x ≡ done ms cs used saved → (length ms ≤ 102) × (length cs ≤ 337)) → FewOf x
 few-done (done ms cs used saved) h = h ms cs used saved refl
 few-done (refused why) h = tt
 few-done (waiting c) h = tt

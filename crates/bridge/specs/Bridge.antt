@@ -24,6 +24,7 @@ use Rattle.definition.specs.Faders.{nudges, writes}
 use Rattle.definition.specs.Live.{isDue}
 use Rattle.definition.specs.Shape.{wellShaped}
 use Rattle.definition.specs.Step.{Left, Ended, done, refused, waiting, Stepped, seen, act, step}
+use Rattle.bounds.specs.Room.{FewOf}
 use Rattle.rig.specs.declared.Current.{Current}
 use Rattle.after.specs.After.{leftOf}
 use Rattle.bridge.specs.Which.{isTick, pressIn, bankBy}
@@ -36,18 +37,13 @@ use Rattle.bridge.specs.declared.Talked as talked
 
 -- ── the promise ──
 
--- "its messages (at most 102) and device calls (at most 337)"
-abbrev pub AtMost : Ended → Type 0
-AtMost (done ms cs used saved) = (length ms ≤ 102) × (length cs ≤ 337)
-AtMost (refused why) = Unit {0}
-AtMost (waiting c) = Unit {0}
-
--- the same of the outcome's counts, and how many answers, records of 16 bytes, it says were used
+-- "its messages (at most 102) and device calls (at most 337)", of an outcome's counts; `FewOf` says it of the event's own lists
 abbrev pub Few : Outcome → Type 0
 Few (outcome.Done ms cs used saved) = (ms ≤ 102) × (cs ≤ 337)
 Few (outcome.Refused why) = Unit {0}
 Few (outcome.Waiting c) = Unit {0}
 
+-- how many answers, records of 16 bytes, an outcome says were used
 abbrev pub usedIn : Outcome → ℕ
 usedIn (outcome.Done ms cs used saved) = used
 usedIn (outcome.Refused why) = 0
@@ -62,7 +58,7 @@ pub record Delivers (d : Stepped) (p : List ℕ) (s : Session) (ms cs : List ℕ
   pub shaped : isDone (d .ended) ≡ true → wellShaped p (r .session) ≡ true
   pub messages : ms₁ ≡ messagesAfter (d .ended) ms
   pub calls : cs₁ ≡ callsAfter (d .ended) cs
-  pub few : AtMost (d .ended)
+  pub few : FewOf (d .ended)
 
 -- ── steps on the way ──
 

@@ -1,6 +1,6 @@
 -- What the promise of an event says of its outcome's counts: they fit the lent buffers, and the answers used are among those offered. Assumes nothing.
 use Prim.Native.Nat.{ℕ, _*_, _≤_}
-use mathlib.Core.Path.{_≡_, refl, sym, subst}
+use mathlib.Core.Path.{sym, subst}
 use mathlib.Core.Bool.{Bool, true, false, _||_}
 use mathlib.Core.List.{List}
 use native.Mathlib.Omega.{arith}
@@ -13,19 +13,20 @@ use Rattle.session.specs.declared.Session.{Session}
 use Rattle.event.specs.Event.{readOf}
 use Rattle.event.specs.declared.Read.{Read}
 use Rattle.event.specs.declared.Read.the-variants.{Known, Unknown}
-use Rattle.event.specs.declared.Timed.{Timed}
 use Rattle.definition.specs.Shape.{wellShaped}
-use Rattle.definition.specs.Step.{Ended, done, refused, waiting, Stepped, seen, step}
+use Rattle.definition.specs.Step.{Ended, done, refused, waiting, Stepped, seen}
 use Rattle.definition.specs.Whole.{whole, offered}
-use Rattle.bounds.specs.Used.{used-within}
+use Rattle.bounds.specs.Bounds.{UsedOf}
+use Rattle.bounds.specs.Room.{FewOf}
+use Rattle.bounds.specs.Used.{step-used}
 use Rattle.delivery.specs.Delivery.{outcomeOf}
 use Rattle.delivery.specs.declared.Outcome.{Outcome}
-use Rattle.bridge.specs.Bridge.{AtMost, Few, usedIn, Delivers}
+use Rattle.bridge.specs.Bridge.{Few, usedIn, Delivers}
 use Rattle.bridge.specs.declared.Stepped as declared
 
 -- ── at most 102 messages and 337 calls ──
 
-few-of : (x : Ended) → AtMost x → Few (outcomeOf x)
+few-of : (x : Ended) → FewOf x → Few (outcomeOf x)
 few-of (done ms cs used saved) h = h
 few-of (refused why) h = tt
 few-of (waiting c) h = tt
@@ -36,37 +37,28 @@ delivers-few d p s ms cs r ms₁ cs₁ h = subst (λ (o : Outcome). Few o) (sym 
 
 -- ── no more answers than were offered ──
 
--- of an event that ended so
-abbrev Within : List ℕ → Ended → Type 0
-Within answers x = 16 * usedIn (outcomeOf x) ≤ length answers
+used-of : (all : ℕ) (x : Ended) → UsedOf all x → 16 * usedIn (outcomeOf x) ≤ all
+used-of all (done ms cs used saved) h = h
+used-of all (refused why) h = omega arith
+used-of all (waiting c) h = omega arith
 
 module _ (p : List ℕ) (s : Session) (answers : List ℕ) where
-  step-within : (e : Timed) → Within answers ((step (viewOf p) (seen p s) e answers) .ended)
-  step-within e = at ((step (viewOf p) (seen p s) e answers) .ended) refl
-    where
-      at : (x : Ended) → (step (viewOf p) (seen p s) e answers) .ended ≡ x → Within answers x
-      at (done ms cs used saved) q = used-within (viewOf p) (seen p s) e answers ms cs used saved q
-      at (refused why) q = omega arith
-      at (waiting c) q = omega arith
+  offered-used : (r : Read) → UsedOf (length answers) ((offered r p (seen p s) answers) .ended)
+  offered-used (Known e) = step-used (viewOf p) (seen p s) e answers
+  offered-used Unknown = tt
 
-  offered-within : (r : Read) → Within answers ((offered r p (seen p s) answers) .ended)
-  offered-within (Known e) = step-within e
-  offered-within Unknown = omega arith
+  pick-used : (b : Bool) (x y : Stepped) → UsedOf (length answers) (x .ended) → UsedOf (length answers) (y .ended) → UsedOf (length answers) ((pick b x y) .ended)
+  pick-used true x y h k = h
+  pick-used false x y h k = k
 
-  pick-within : (b : Bool) (x y : Stepped) → Within answers (x .ended) → Within answers (y .ended) → Within answers ((pick b x y) .ended)
-  pick-within true x y h k = h
-  pick-within false x y h k = k
-
-  whole-within : (event : List ℕ) (messages calls : ℕ) → Within answers ((whole p s event answers messages calls) .ended)
+  whole-used : (event : List ℕ) (messages calls : ℕ) → UsedOf (length answers) ((whole p s event answers messages calls) .ended)
   unfolding whole
-  whole-within event messages calls =
-      pick-within (eqb (verdict p) 0) _ _
-      (pick-within (wellShaped p s) _ _
-      (pick-within (ltb messages 306 || ltb calls 5392) _ _ (omega arith) (offered-within (readOf event)))
-      (omega arith))
-      (omega arith)
+  whole-used event messages calls =
+      pick-used (eqb (verdict p) 0) _ _
+      (pick-used (wellShaped p s) _ _ (pick-used (ltb messages 306 || ltb calls 5392) _ _ tt (offered-used (readOf event))) tt)
+      tt
 
   pub delivers-used : (event : List ℕ) (messages calls : ℕ) (ms cs : List ℕ) (r : declared.Stepped) (ms₁ cs₁ : List ℕ) →
       Delivers (whole p s event answers messages calls) p s ms cs r ms₁ cs₁ → 16 * usedIn (r .outcome) ≤ length answers
   delivers-used event messages calls ms cs r ms₁ cs₁ h =
-      subst (λ (o : Outcome). 16 * usedIn o ≤ length answers) (sym (h .outcome)) (whole-within event messages calls)
+      subst (λ (o : Outcome). 16 * usedIn o ≤ length answers) (sym (h .outcome)) (used-of (length answers) ((whole p s event answers messages calls) .ended) (whole-used event messages calls))

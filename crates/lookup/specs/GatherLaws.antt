@@ -12,7 +12,7 @@ use lib.ListN.{length, getD, length-append, List·getD-eq-default, List·getD-ap
 use lib.Seq.{getD-at}
 use Rattle.base.specs.Choice.{pick}
 use Rattle.base.specs.Range.{count, bit}
-use Rattle.base.specs.RangeLaws.{count-none, count-more}
+use Rattle.base.specs.RangeLaws.{bit-le, count-none, count-more}
 use Rattle.base.specs.First.{first, orElse}
 use Rattle.base.specs.Keyed.{find}
 use Rattle.base.specs.declared.Place.{Place}
@@ -127,6 +127,10 @@ module _ (p : ℕ → Bool) where
 
   pub walked-no : (m k : ℕ) → Walked p m k → p k ≡ false → Walked p m (k + 1)
   walked-no m k w e = record { le = omega arith; is = rw (count-more, e, add-zero) (w .is) }
+
+  -- whichever it is
+  pub walked-on : (m k b : ℕ) → Walked p m k → b ≡ bit (p k) → Walked p (m + b) (k + 1)
+  walked-on m k b w e = record { le = omega (arith, bit-le (p k)); is = cc (w .is, count-more p k) }
 
   pub walked-yes : (m k : ℕ) → Walked p m k → p k ≡ true → Walked p (m + 1) (k + 1)
   walked-yes m k w e = record { le = omega arith; is = rw (count-more, e, ← w .is) }

@@ -16,11 +16,6 @@ map-take g zero l = refl
 map-take g (suc n) [] = refl
 map-take {B = B} g (suc n) (x ∷ l) = ap (λ (r : List B). g x ∷ r) (map-take g n l)
 
-map-set : {A B : Type 0} (g : A → B) (l : List A) (i : ℕ) (x : A) → map g (set l i x) ≡ set (map g l) i (g x)
-map-set g [] i x = refl
-map-set g (y ∷ l) zero x = refl
-map-set {B = B} g (y ∷ l) (suc i) x = ap (λ (t : List B). g y ∷ t) (map-set g l i x)
-
 module _ {A : Type 0} (g : ℕ → A) (f : A → Bool) (xs : List ℕ) where
   -- ── a search that counts up: none of the first k passes ──
   pub none-yet : at f (map g (take 0 xs)) ≡ 0
@@ -64,13 +59,13 @@ module _ {A : Type 0} (g : ℕ → A) (f : A → Bool) (xs : List ℕ) where
     -- what is there is replaced, and else it comes behind
     pub put-in : (x : ℕ) → k < n → map g (take n (set xs k x)) ≡ change f (λ y. g x) (g x) (map g (take n xs))
     put-in x h =
-        map-take g n (set xs k x) ∙ ap (take n) (map-set g xs k x) ∙ laws.change-in f (g 0) (map g xs) n k seen (λ y. g x) (g x) long h ∙ sym (ap (change f (λ y. g x) (g x)) (map-take g n xs))
+        map-take g n (set xs k x) ∙ ap (take n) (laws.map-set g xs k x) ∙ laws.change-in f (g 0) (map g xs) n k seen (λ y. g x) (g x) long h ∙ sym (ap (change f (λ y. g x) (g x)) (map-take g n xs))
 
     pub put-out : (x : ℕ) → n < length xs → n ≤ k → map g (take (n + 1) (set xs k x)) ≡ change f (λ y. g x) (g x) (map g (take n xs))
     put-out x r h =
         let q : k ≡ n = omega (arith, within) in
         map-take g (n + 1) (set xs k x) ∙
-        ap (take (n + 1)) (map-set g xs k x ∙ ap (λ (m : ℕ). set (map g xs) m (g x)) q) ∙
+        ap (take (n + 1)) (laws.map-set g xs k x ∙ ap (λ (m : ℕ). set (map g xs) m (g x)) q) ∙
         laws.change-out f (g 0) (map g xs) n k seen (λ y. g x) (g x) (rw (length-map xs g) r) h ∙
         sym (ap (change f (λ y. g x) (g x)) (map-take g n xs))
 

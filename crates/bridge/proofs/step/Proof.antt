@@ -1,12 +1,13 @@
 -- `bridge::step` meets its contract. Assumes nothing.
 use Prim.Native.Nat.{ℕ}
 use native.Mathlib.Omega.{arith}
-use mathlib.Core.Path.{_≡_, refl, sym, _∙_}
+use mathlib.Core.Path.{_≡_, sym, _∙_}
 use lib.ListN.{length}
 use borrow.Author.Tests.{not-true, not-false, eq-eqb, ne-eqb}
 use Rattle.base.specs.KeyedLaws.{long}
 use Rattle.bounds.specs.Channels.{read-low}
 use Rattle.definition.specs.Shape.{wellShaped}
+use Rattle.shape.specs.PartsLaws.{own-parts}
 use Rattle.definition.specs.Whole.{whole}
 use Rattle.delivery.specs.declared.Outcome.the-variants as outcome
 use Rattle.bridge.specs.Bridge.{Delivers, declinedOf}
@@ -30,15 +31,7 @@ levels-long c = search (long, c .good .0 .1 .1 .1 .1 .1 .1 .1 .1 .1 .1 .1 .0)
 told : (x : tie.After-shaped-parts) → let b = begun (examined x) in x .shaped-parts .result ≡ wellShaped (b .args .profile .now) (b .args .session)
 told x =
     let b = begun (examined x) in
-    x .shaped-parts .ensures (b .args .session)
-    (record {
-      bank = refl;
-      line = refl;
-      live = refl;
-      turns = refl;
-      silenced = record { targets = refl; count = refl; long = levels-long b };
-      flash = refl;
-    })
+    x .shaped-parts .ensures (b .args .session) (own-parts (b .args .session) (levels-long b))
 
 -- what the numbers 1 to 9 say of the event
 abbrev numberOf : tie.After-examine → ℕ

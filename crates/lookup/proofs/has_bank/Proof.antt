@@ -1,26 +1,18 @@
 -- `lookup::has_bank` meets its contract. Assumes nothing.
-use Prim.Native.Nat.{ℕ, _+_, _≤_, _<_, _-_}
+use Prim.Native.Nat.{ℕ, _≤_, _<_, _-_}
 use mathlib.Core.Path.{_≡_, sym}
-use mathlib.Core.Bool.{Bool, true, false}
+use mathlib.Core.Bool.{true, false}
 use mathlib.Core.List.{List}
 use native.Mathlib.Omega.{arith}
 use lib.Dec.{ltb}
 use borrow.Author.Needs.{needs}
 use borrow.Author.Tests.{lt-ltb, le-ltb}
-use Rattle.base.specs.Range.{bit}
-use Rattle.base.specs.RangeLaws.{bit-le, count-more, count-done}
+use Rattle.base.specs.RangeLaws.{count-done}
 use Rattle.profile.specs.Profile.{records, isKind, kindCount, bankCount}
 use Rattle.profile.specs.RangeMore.{count-mono}
-use Rattle.lookup.specs.GatherLaws.{Walked, walked-none}
+use Rattle.lookup.specs.GatherLaws.{Walked, walked-none, walked-on}
 use Rattle.lookup.proofs.has_bank.Statement.{statement}
 use Rattle.lookup.proofs.has_bank.Tie as tie
-
--- one more record is counted
-turn : (p : ℕ → Bool) (m k b : ℕ) → Walked p m k → b ≡ bit (p k) → Walked p (m + b) (k + 1)
-turn p m k b w e = record {
-  le = omega (arith, bit-le (p k));
-  is = cc (w .is, count-more p k);
-}
 
 -- m banks are among the first k records, and the one that is asked for is one of them
 there : (s : List ℕ) (bank m k : ℕ) → k ≤ records s → Walked (isKind s 1) m k → bank < m → true ≡ ltb bank (bankCount s)
@@ -54,7 +46,7 @@ add-m c = search needs
 
 returns : tie.Need-returns Inv-loop μ-loop
 returns c = let at = c .before .before .before .before in
-    there _ _ _ _ (omega arith) (turn _ _ _ _ (at .loop .inv .2) (cc (c .before .one .ensures .0, c .before .before .byte .ensures))) (c .if1 .taken)
+    there _ _ _ _ (omega arith) (walked-on _ _ _ _ (at .loop .inv .2) (cc (c .before .one .ensures .0, c .before .before .byte .ensures))) (c .if1 .taken)
 
 add-k : tie.Need-add-k Inv-loop μ-loop
 add-k c = search needs
@@ -64,7 +56,7 @@ loop-less c = search needs
 
 loop-again : tie.Need-loop-again Inv-loop μ-loop
 loop-again c = let at = c .before .before .before .before in
-    (omega arith, c .if1 .left, turn _ _ _ _ (at .loop .inv .2) (cc (c .before .one .ensures .0, c .before .before .byte .ensures)))
+    (omega arith, c .if1 .left, walked-on _ _ _ _ (at .loop .inv .2) (cc (c .before .one .ensures .0, c .before .before .byte .ensures)))
 
 returns-2 : tie.Need-returns-2 Inv-loop μ-loop
 returns-2 c = not-there _ _ _ _ (omega arith) (omega arith) (c .before .loop .inv .2) (c .before .loop .inv .1)

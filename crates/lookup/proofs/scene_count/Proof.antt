@@ -3,11 +3,10 @@ use Prim.Native.Nat.{_≤_, _-_}
 use mathlib.Core.Path.{_≡_, sym, _∙_}
 use native.Mathlib.Omega.{arith}
 use borrow.Author.Needs.{needs}
-use Rattle.base.specs.RangeLaws.{count-more}
 use Rattle.base.specs.First.{first}
 use Rattle.base.specs.FirstLaws.{first-none, first-more}
 use Rattle.base.specs.declared.Place.the-variants.{Nothing}
-use Rattle.lookup.specs.GatherLaws.{Walked, walked-none}
+use Rattle.lookup.specs.GatherLaws.{Walked, walked-none, walked-on}
 use Rattle.lookup.specs.Lookup.{isPast, ofPart}
 use Rattle.lookup.specs.LookupLaws.{reach-here, reach-end}
 use Rattle.lookup.specs.SceneLaws.{scenes-counted}
@@ -45,15 +44,11 @@ loop-less : tie.Need-loop-less Inv-loop μ-loop
 loop-less c = search needs
 
 loop-again : tie.Need-loop-again Inv-loop μ-loop
-loop-again c = let at = c .before .before .before .before .before in
-    let a = at .before .before .args in (
-      omega arith,
-      first-more _ _ (at .loop .inv .1) (sym (c .before .before .before .is-past .ensures) ∙ c .before .before .if1 .left),
-      record {
-        le = omega arith;
-        is = cc (at .loop .inv .2 .is, c .one .ensures .0, c .before .of-part .ensures, count-more (ofPart (a .profile .now) 4 (a .bank)) (at .loop .k));
-      },
-    )
+loop-again c = let at = c .before .before .before .before .before in (
+  omega arith,
+  first-more _ _ (at .loop .inv .1) (sym (c .before .before .before .is-past .ensures) ∙ c .before .before .if1 .left),
+  walked-on _ _ _ _ (at .loop .inv .2) (cc (c .one .ensures .0, c .before .of-part .ensures)),
+)
 
 returns-2 : tie.Need-returns-2 Inv-loop μ-loop
 returns-2 c = scenes-counted _ _ _ (c .before .loop .k) (c .before .loop .inv .2) (reach-end _ _ _ (c .before .loop .inv .1) (omega arith) (omega arith))

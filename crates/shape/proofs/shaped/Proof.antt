@@ -1,7 +1,8 @@
 -- `shape::shaped` meets its contract. Assumes nothing.
-use mathlib.Core.Path.{_≡_, refl}
+use mathlib.Core.Path.{_≡_}
 use lib.ListN.{length}
 use Rattle.base.specs.KeyedLaws.{long}
+use Rattle.shape.specs.PartsLaws.{own-parts}
 use borrow.Author.Needs.{needs}
 use Rattle.shape.proofs.shaped.Statement.{statement}
 use Rattle.shape.proofs.shaped.Tie as tie
@@ -15,15 +16,7 @@ shaped-parts-requires c κs = search needs
 returns : tie.Need-returns
 returns c =
     let b = c .before .before .before .before .before .before .before .before .before .before in
-    c .shaped-parts .ensures (b .args .session)
-    (record {
-      bank = refl;
-      line = refl;
-      live = refl;
-      turns = refl;
-      silenced = record { targets = refl; count = refl; long = levels-long b };
-      flash = refl;
-    })
+    c .shaped-parts .ensures (b .args .session) (own-parts (b .args .session) (levels-long b))
 
 pub shaped-spec : {M : Type 1} → statement M
 shaped-spec = tie.close (tie.spec shaped-parts-requires returns)

@@ -11,7 +11,7 @@ use Rattle.shape.proofs.shaped_silenced.Tie as tie
 
 returns : tie.Need-returns
 unfolding shapedSilenced
-returns c = λ x h. rw (h .count, lt-leb _ _ (c .if1 .taken))
+returns c = λ x h. rw (h .count, lt-leb (c .before .args .n) 256 (omega (arith, c .if1 .taken)))
 
 no-target-twice-requires : tie.Need-no-target-twice-requires
 no-target-twice-requires c κs = search needs

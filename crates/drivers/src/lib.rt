@@ -19,6 +19,7 @@ pub use line::toggle;
 pub use line::write;
 
 // What a driver is asked. The level is kept as bits, since a NaN has one pattern only.
+#[repr(C)]
 pub struct Call {
     pub kind: u8,
     pub driver: u8,

@@ -45,6 +45,7 @@ ghost use Rattle.session.specs.Session.{freshSession};
 // ── where we are ──
 
 // A live bank's fader, as its driver handed it over last.
+#[repr(C)]
 pub struct Strip {
     pub number: u8,
     pub driver: u8,
@@ -55,12 +56,14 @@ pub struct Strip {
 }
 
 // The faders of one bank; not known until its driver was asked.
+#[repr(C)]
 pub struct Strips {
     pub known: bool,
     pub list: [Strip; 8],
     pub count: usize,
 }
 
+#[repr(C)]
 pub struct Live {
     pub banks: [Strips; 16],
 }
@@ -68,27 +71,32 @@ pub struct Live {
 // ── the desk: by bank * 16 + channel, and what waits for the next drain ──
 
 // Faders that are in control of their destination.
+#[repr(C)]
 pub struct Marks {
     pub on: [bool; 256],
 }
 
 // The last position seen of each fader.
+#[repr(C)]
 pub struct Moves {
     pub known: [bool; 256],
     pub level: [f64; 256],
 }
 
+#[repr(C)]
 pub struct Move {
     pub channel: u8,
     pub level: f64,
 }
 
+#[repr(C)]
 pub struct Line {
     pub list: [Move; 16],
     pub count: usize,
 }
 
 // The encoders' detents that wait: the sums by the first turn, side by side with the profile's records of their encoders.
+#[repr(C)]
 pub struct Turns {
     pub records: [u16; 136],
     pub sums: [i32; 136],
@@ -98,6 +106,7 @@ pub struct Turns {
 // ── the lamps ──
 
 // A number shown as a grid, played out as timed steps; sent counts the phases sent.
+#[repr(C)]
 pub struct Flash {
     pub on: bool,
     pub start: f64,
@@ -108,6 +117,7 @@ pub struct Flash {
 }
 
 // The soloed fader and the one whose scene was loaded last, from 1, or 0; mutes before a solo by fader - 1; the scene position of each bank, if it is known.
+#[repr(C)]
 pub struct Lamps {
     pub soloed: u8,
     pub loaded: u8,
@@ -118,6 +128,7 @@ pub struct Lamps {
 }
 
 // The levels of targets that were silenced without a mute, side by side with their targets.
+#[repr(C)]
 pub struct Silenced {
     pub targets: [u16; 256],
     pub levels: [f64; 256],
@@ -126,6 +137,7 @@ pub struct Silenced {
 
 // ── all of it ──
 
+#[repr(C)]
 pub struct Session {
     pub bank: u8,
     pub livedue: bool,

@@ -1,4 +1,4 @@
--- `host::on_event` meets its contract: a walk of its MIR, by hand. The borrow is opened, the Session is copied out and passed to `step` with the rest of the parameters, of which the proof knows only that it meets its contract; of what it returned the Session is stored and the outcome returned, and the borrow is closed at that Session.
+-- `host::zelwydro_on_event` meets its contract: a walk of its MIR, by hand. The borrow is opened, the Session is copied out and passed to `told` with the rest of the parameters, of which the proof knows only that it meets its contract; of what it returned the Session is stored and the report returned, and the borrow is closed at that Session.
 -- Nothing here names a field of `Session`: its laws come from the module that `rattle check` makes of it. What is passed on is at its own lifetime, share and name, so that nothing has to come back.
 -- Assumes nothing.
 use mathlib.Core.Path.{_≡_, refl, ap, sym, subst}
@@ -43,26 +43,25 @@ use denote.Triple.Table.{entered, cited}
 use denote.Triple.Walked.{says, Stays, stay-ref, walkOf, goes-ref, Walks, ends-at, walked, walk-meets}
 use denote.Exit.{yes}
 use Rattle.session.specs.declared.Session.{Session}
-use Rattle.bridge.specs.declared.Stepped.{Stepped}
-use denote.Enum.Laws as EL
-use Rattle.delivery.proofs.Outcome as O
-use Rattle.delivery.proofs.Outcome.Laws as O′
+use Rattle.host.specs.declared.Reported.{Reported}
+use Rattle.host.proofs.Report as O
+use Rattle.host.proofs.Report.Laws as O′
 use Rattle.definition.specs.Whole.{whole as wholeOf}
-use Rattle.bridge.specs.Bridge.{Delivers}
+use Rattle.host.specs.Report.{Reports}
 use Rattle.host.proofs.Passed.{passed, goes-passed}
 use Rattle.session.proofs.Session as T
 use Rattle.session.proofs.Session.Laws as T′
-use Rattle.bridge.proofs.Stepped as U
-use Rattle.bridge.proofs.Stepped.Laws as U′
-use Rattle.bridge.proofs.step as core
-use Rattle.bridge.proofs.step.Symbol as core-def
-use Rattle.bridge.proofs.step.Symbol.{name as #core}
-use Rattle.bridge.proofs.step.Met as core-thm
-use Rattle.host.proofs.on_event.Key.{name as #self}
-use Rattle.host.proofs.on_event as self
-use Rattle.host.proofs.on_event.Statement as stated
-use Rattle.host.proofs.on_event.Code as code
-use Rattle.host.proofs.on_event.Code.Mir as stmt
+use Rattle.host.proofs.Reported as U
+use Rattle.host.proofs.Reported.Laws as U′
+use Rattle.host.proofs.told as core
+use Rattle.host.proofs.told.Symbol as core-def
+use Rattle.host.proofs.told.Symbol.{name as #core}
+use Rattle.host.proofs.told.Met as core-thm
+use Rattle.host.proofs.zelwydro_on_event.Key.{name as #self}
+use Rattle.host.proofs.zelwydro_on_event as self
+use Rattle.host.proofs.zelwydro_on_event.Statement as stated
+use Rattle.host.proofs.zelwydro_on_event.Code as code
+use Rattle.host.proofs.zelwydro_on_event.Code.Mir as stmt
 
 -- the session's type, and that of what the core returns
 abbrev R : RattleType
@@ -73,7 +72,7 @@ Q = U.the-row
 
 -- the entry's MIR, with each declared type by the name that its laws have: spelled out from the table at each step, the types would be too large
 abbrev Pair : Ty
-Pair = tyStruct (98 ∷ 114 ∷ 105 ∷ 100 ∷ 103 ∷ 101 ∷ 58 ∷ 58 ∷ 83 ∷ 116 ∷ 101 ∷ 112 ∷ 112 ∷ 101 ∷ 100 ∷ []) (tcons O′.mir (tcons T′.mir tnil))
+Pair = tyStruct (104 ∷ 111 ∷ 115 ∷ 116 ∷ 58 ∷ 58 ∷ 82 ∷ 101 ∷ 112 ∷ 111 ∷ 114 ∷ 116 ∷ 101 ∷ 100 ∷ []) (tcons O′.mir (tcons T′.mir tnil))
 
 abbrev slice : Lifetime → Mutability → Ty
 slice ℓ μ = tyStruct (38 ∷ 91 ∷ 93 ∷ []) (tcons (tyRef ℓ μ (tyInt w8)) (tcons (tyInt w64) tnil))
@@ -151,20 +150,20 @@ module _ {M : Type 1} (𝓤 : URA M) (H : Heap 𝓤) (A : Atoms 𝓤) (W : Given
   left ws = lastsOf {n = 5} (κ₁, (κ₂, (κ₃, (κ₄, (κ₅, tt))))) ((shrSliceOf (0 ∷ []) tt (plain (λ _. u8))) ∷ (shrSliceOf (1 ∷ []) tt (plain (λ _. u8))) ∷ (shrSliceOf (2 ∷ []) tt (plain (λ _. u8))) ∷ (mutSliceOf (3 ∷ []) tt (plain (λ _. u8))) ∷ (mutSliceOf (4 ∷ []) tt (plain (λ _. u8))) ∷ []) (yes, (yes, (yes, (yes, (yes, tt))))) (e₁, (e₂, (e₃, (e₄, (e₅, tt))))) (ws .1)
 
   -- what the callee ensures
-  abbrev Said : Stepped → Lasts → Type 0
-  Said r ws = Delivers (wholeOf (e₁ .now) h (e₂ .now) (e₃ .now) (length (e₄ .now)) (length (e₅ .now))) (e₁ .now) h (e₄ .now) (e₅ .now) r (ws .1 .1 .1 .1 .0) (ws .1 .1 .1 .1 .1 .0)
+  abbrev Said : Reported → Lasts → Type 0
+  Said r ws = Reports (wholeOf (e₁ .now) h (e₂ .now) (e₃ .now) (length (e₄ .now)) (length (e₅ .now))) (e₁ .now) h (e₄ .now) (e₅ .now) (r .report) (r .session) (ws .1 .1 .1 .1 .0) (ws .1 .1 .1 .1 .1 .0)
 
   -- what the callee's result shows of its two fields
-  knows : (r : Stepped) (v : Val) → Is Q r (v ∷ []) → Is O.the-row (r .outcome) (only (EL.vals O.the-type O′.the-laws (r .outcome)) ∷ []) × (Is R (r .session) (mach (r .session) ∷ []) × Unit {0})
+  knows : (r : Reported) (v : Val) → Is Q r (v ∷ []) → Is O.the-row (r .report) (LL.tuple-val O.the-type O′.the-laws (O.the-type .to (r .report)) ∷ []) × (Is R (r .session) (mach (r .session) ∷ []) × Unit {0})
   knows r v is = LL.owed U.the-type U′.the-laws r _ is
 
-  exits : (r : Stepped) (ws : Lasts) → Said r ws → Is O.the-row (r .outcome) (only (EL.vals O.the-type O′.the-laws (r .outcome)) ∷ [])
-      → ent 𝓤 (⋆ 𝓤 H A (‵ (fobs γ (R .coded .code (r .session))) ∷ ‵ (fbor κ (Body (mem R) b o γ)) ∷ ‵ (flft κ q) ∷ Tokens ∷ ‵ (left ws) ∷ [])) (Post (only (EL.vals O.the-type O′.the-laws (r .outcome))))
+  exits : (r : Reported) (ws : Lasts) → Said r ws → Is O.the-row (r .report) (LL.tuple-val O.the-type O′.the-laws (O.the-type .to (r .report)) ∷ [])
+      → ent 𝓤 (⋆ 𝓤 H A (‵ (fobs γ (R .coded .code (r .session))) ∷ ‵ (fbor κ (Body (mem R) b o γ)) ∷ ‵ (flft κ q) ∷ Tokens ∷ ‵ (left ws) ∷ [])) (Post (LL.tuple-val O.the-type O′.the-laws (O.the-type .to (r .report))))
   exits r ws e is =
       qed W (‵ (fobs γ (R .coded .code (r .session))) ∷ ‵ (fbor κ (Body (mem R) b o γ)) ∷ ‵ (flft κ q) ∷ Tokens ∷ ‵ (left ws) ∷ []) ∵
-      suffices ! _ (ends-at 𝓤 H A self.ended stayed (self.clauses 𝓤 H A at-mem run) W (((κ, (κ₁, (κ₂, (κ₃, (κ₄, (κ₅, tt)))))), (q, (q₁, (q₂, (q₃, (q₄, (q₅, tt)))))), tt, x, at), tt) (only (EL.vals O.the-type O′.the-laws (r .outcome))) (r .outcome) (r .session, (ws .1)) (tt, (tt, (tt, (tt, (tt, (tt, tt))))))) $ says ! e $
+      suffices ! _ (ends-at 𝓤 H A self.ended stayed (self.clauses 𝓤 H A at-mem run) W (((κ, (κ₁, (κ₂, (κ₃, (κ₄, (κ₅, tt)))))), (q, (q₁, (q₂, (q₃, (q₄, (q₅, tt)))))), tt, x, at), tt) (LL.tuple-val O.the-type O′.the-laws (O.the-type .to (r .report))) (r .report) (r .session, (ws .1)) (tt, (tt, (tt, (tt, (tt, (tt, tt))))))) $ says ! e $
       move ! (2 ∷ 3 ∷ []) $ join ! $ frame ! $ feqI ! (List Val) (vptr b o ∷ []) (vptr b o ∷ []) refl $ fjoin3 ! $ fjoin ! $
-      owned ! O.the-row (Is O.the-row) (EL.makes O.the-type O′.the-plain 𝓤 H A) (r .outcome) _ is $ move ! (1 ∷ 0 ∷ []) $ done !
+      owned ! O.the-row (Is O.the-row) (LL.makes O.the-type O′.the-plain 𝓤 H A) (r .report) _ is $ move ! (1 ∷ 0 ∷ []) $ done !
 
   module _ (C : Calls 𝓤 H) (Λ : Loops 𝓤 H) (fm : FmC 𝓤 H (W .laws) C) (known : Triple 𝓤 (C #core) (Core 𝓤 H A at-mem run)) where
     walk : Is (ShrSlice (named 1) κ₁ u8) e₁ (v₁ ∷ []) → Is (ShrSlice (named 2) κ₂ u8) e₂ (v₂ ∷ []) → Is (ShrSlice (named 3) κ₃ u8) e₃ (v₃ ∷ []) → Is (MutSlice (named 4) κ₄ u8) e₄ (v₄ ∷ []) → Is (MutSlice (named 5) κ₅ u8) e₅ (v₅ ∷ []) → ent 𝓤 (onEntry 𝓤 H A self.signature (κ, (κ₁, (κ₂, (κ₃, (κ₄, (κ₅, tt)))))) (q, (q₁, (q₂, (q₃, (q₄, (q₅, tt)))))) x at) (WpFn 𝓤 H C Λ laid (vptr b o ∷ v₁ ∷ v₂ ∷ v₃ ∷ v₄ ∷ v₅ ∷ []) Post)
@@ -183,14 +182,14 @@ module _ {M : Type 1} (𝓤 : URA M) (H : Heap 𝓤) (A : Atoms 𝓤) (W : Given
         assigns ! (agg ! (and-then ! (load ! (from ! (stop !)) (look ! 7 refl)) (and-then ! (load ! (from ! (fld ! refl (stop !))) (look-in ! 17 (sub ! 1 refl (whole !)))) (no-more !)))) (from ! (stop !)) (init ! 5 refl (tt, (tt, (record { fits = is₅ .0 .1 .0 }, tt)))) $
         move ! (32 ∷ 1 ∷ 31 ∷ []) $ use3 W (raw (Core 𝓤 H A at-mem run .pre to)) goes $
         calls-at ! fm (Core 𝓤 H A at-mem run) known to (and-then ! (load ! (from ! (stop !)) (look ! 13 refl)) (and-then ! (load ! (from ! (stop !)) (look ! 25 refl)) (and-then ! (load ! (from ! (stop !)) (look ! 23 refl)) (and-then ! (load ! (from ! (stop !)) (look ! 21 refl)) (and-then ! (load ! (from ! (stop !)) (look ! 9 refl)) (and-then ! (load ! (from ! (stop !)) (look ! 5 refl)) (no-more !))))))) (λ v.
-        use1 W (later (some (λ (r : Stepped). (Tokens ⊛ ‵ (Q .own r (v ∷ []))) ⊛ raw (ensured 𝓤 H A core.ended (core.clauses 𝓤 H A at-mem run) (κ₁, (κ₂, (κ₃, (κ₄, (κ₅, tt))))) (h, (e₁, (e₂, (e₃, (e₄, (e₅, tt)))))) tt r)))) (id⊢ 𝓤 _) $ await ! tt $ pick ! (λ r.
+        use1 W (later (some (λ (r : Reported). (Tokens ⊛ ‵ (Q .own r (v ∷ []))) ⊛ raw (ensured 𝓤 H A core.ended (core.clauses 𝓤 H A at-mem run) (κ₁, (κ₂, (κ₃, (κ₄, (κ₅, tt))))) (h, (e₁, (e₂, (e₃, (e₄, (e₅, tt)))))) tt r)))) (id⊢ 𝓤 _) $ await ! tt $ pick ! (λ r.
         split ! $ move ! (1 ∷ []) $ use1 W (some (λ (ws : Lasts). ‵ (lasts core.ended (κ₁, (κ₂, (κ₃, (κ₄, (κ₅, tt))))) (h, (e₁, (e₂, (e₃, (e₄, (e₅, tt)))))) ws) ⊛ raw (fact 𝓤 (Said r ws)))) (id⊢ 𝓤 _) $ pick ! (λ ws. split ! $ move ! (1 ∷ []) $ heard ! (Said r ws) (λ e. fsplit ! $ drop ! $ move ! (1 ∷ []) $ split ! $ move ! (1 ∷ []) $
         peeks ! Q (Is Q) (shows 𝓤 H A Q) r (v ∷ []) (λ is. drop ! $
         -- [the tokens; what is said of the rest; the session's cell; the open borrow; obs; auth; _12; …; _11; …; _10; …; _9; …; _8; …; _7; …; _6; …; _5; …; _4; …; _3; …; _2; …; _1; …; room for _0; …]
         land ! (from ! (stop !)) (init ! 16 refl (LL.lawful U.the-type U′.the-laws 𝓤 H A W .typed r _ is .0)) $
         rewrite ! 16 (λ (u : Val). ‵ (fat fullShare Pair l₇ 0 u)) (ap only (LL.tells U.the-type U′.the-laws r _ is)) refl $
         assigns ! (of-opd ! (load ! (from ! (fld ! refl (stop !))) (look-in ! 16 (sub ! 1 refl (whole !))))) (from ! (hop ! (look ! 28 refl) (stop !))) (store-raw ! 2 refl (typed (r .session) _ (knows r v is .1 .0))) $
-        assigns ! (of-opd ! (load ! (from ! (fld ! refl (stop !))) (look-in ! 16 (sub ! 0 refl (whole !))))) (from ! (stop !)) (init ! 30 refl (EL.lawful O.the-type O′.the-laws 𝓤 H A W tt .typed (r .outcome) _ (knows r v is .0) .0)) $
+        assigns ! (of-opd ! (load ! (from ! (fld ! refl (stop !))) (look-in ! 16 (sub ! 0 refl (whole !))))) (from ! (stop !)) (init ! 30 refl (LL.lawful O.the-type O′.the-laws 𝓤 H A W .typed (r .report) _ (knows r v is .0) .0)) $
         owned ! R (Is R) (LL.makes T.the-type T′.the-plain 𝓤 H A) (r .session) _ (knows r v is .1 .0) $ move ! (3 ∷ 0 ∷ 4 ∷ 5 ∷ 6 ∷ []) $ closes ! tt R (r .session) (mach (r .session) ∷ []) b o $
         -- [obs; the borrow; its token; the tokens; what is said of the rest; _12; …; _11; …; _10; …; _9; …; _8; …; _7; …; _6; …; _5; …; _4; …; _3; …; _2; …; _1; …; room for _0; …]
         returns ! (look ! 29 refl) $ forget ! 5 refl $ forget ! 7 refl $ forget ! 9 refl $ forget ! 11 refl $ forget ! 13 refl $ forget ! 15 refl $ forget ! 17 refl $ forget ! 19 refl $ forget ! 21 refl $ forget ! 23 refl $ forget ! 25 refl $ forget ! 27 refl $ forget ! 29 refl $
@@ -212,10 +211,10 @@ code-meets : {M : Type 1} (𝓤 : URA M) (H : Heap 𝓤) (A : Atoms 𝓤) → Gi
     → Meets 𝓤 H A self.signature (WpFn 𝓤 H (𝓣 .C) (𝓣 .Λ) code.function) (self.spec 𝓤 H A mem run)
 code-meets 𝓤 H A W mem run 𝓣 known = subst (λ (f : Fn). Meets 𝓤 H A self.signature (WpFn 𝓤 H (𝓣 .C) (𝓣 .Λ) f) (self.spec 𝓤 H A mem run)) (sym laid-out) (self-meets 𝓤 H A W mem run 𝓣 known)
 
-pub on-event-spec : {M : Type 1} → stated.statement M
+pub zelwydro-on-event-spec : {M : Type 1} → stated.statement M
 unfolding code.routine tablesOf
-on-event-spec 𝓤 H 𝓜 𝓖 𝓡 =
+zelwydro-on-event-spec 𝓤 H 𝓜 𝓖 𝓡 =
     entered 𝓤 H (tripleOf 𝓤 H (𝓖 .A) self.signature (self.spec 𝓤 H (𝓖 .A) (𝓜 .mem) (𝓡 .run)))
     (tables 𝓤 H 𝓜 𝓡 code.env .C) (tables 𝓤 H 𝓜 𝓡 code.env .Λ) #self code.function (code.unfolded 𝓤 H 𝓜 𝓡)
     (code-meets 𝓤 H (𝓖 .A) (givenOf 𝓤 H 𝓜 𝓖) (𝓜 .mem) (𝓡 .run) (tablesOf 𝓤 H 𝓜 (tables 𝓤 H 𝓜 𝓡 code.env))
-    (cited 𝓤 H (Core 𝓤 H (𝓖 .A) (𝓜 .mem) (𝓡 .run)) 𝓜 𝓡 code.env #core core-def.routine code.calls-bridge·step (core-thm.met 𝓤 H 𝓜 𝓖 𝓡)))
+    (cited 𝓤 H (Core 𝓤 H (𝓖 .A) (𝓜 .mem) (𝓡 .run)) 𝓜 𝓡 code.env #core core-def.routine code.calls-host·told (core-thm.met 𝓤 H 𝓜 𝓖 𝓡)))

@@ -1,0 +1,28 @@
+-- What a program that calls the bridge is told of an event: document 01's numbers and values for each outcome. Definitions only.
+use Prim.Native.Nat.{ℕ}
+use mathlib.Core.Path.{_≡_}
+use mathlib.Core.Bool.{false}
+use mathlib.Core.List.{List}
+use Rattle.drivers.specs.declared.Call.{Call}
+use Rattle.session.specs.declared.Session.{Session}
+use Rattle.definition.specs.Step.{Stepped}
+use Rattle.delivery.specs.Delivery.{outcomeOf}
+use Rattle.delivery.specs.declared.Outcome.{Outcome}
+use Rattle.delivery.specs.declared.Outcome.the-variants.{Done, Refused, Waiting}
+use Rattle.bridge.specs.Bridge.{Delivers}
+use Rattle.host.specs.declared.Report.{Report}
+
+-- no call: all of it 0
+abbrev pub noCall : Call
+noCall = record { kind = 0; driver = 0; name = 0; argument = 0; level = 0 }
+
+-- 0: done, with its counts. 1: refused, "number, zero counts". 2: "the outcome is "waiting" with that call", and zero counts
+abbrev pub reportOf : Outcome → Report
+reportOf (Done m c u s) = record { kind = 0; number = 0; saved = s; messages = m; calls = c; used = u; call = noCall }
+reportOf (Refused n) = record { kind = 1; number = n; saved = false; messages = 0; calls = 0; used = 0; call = noCall }
+reportOf (Waiting c) = record { kind = 2; number = 0; saved = false; messages = 0; calls = 0; used = 0; call = c }
+
+-- what `bridge::step` promises, with the outcome in numbers; s₁ is the session after the event
+abbrev pub Reports : Stepped → List ℕ → Session → List ℕ → List ℕ → Report → Session → List ℕ → List ℕ → Type 0
+Reports d p s ms cs r s₁ ms₁ cs₁ =
+    (r ≡ reportOf (outcomeOf (d .ended))) × Delivers d p s ms cs (record { outcome = outcomeOf (d .ended); session = s₁ }) ms₁ cs₁

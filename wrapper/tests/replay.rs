@@ -2,6 +2,7 @@
 //! must be left alone but for what the report says.
 
 mod recording;
+mod safe;
 mod session;
 
 use std::fmt::Write;
@@ -48,16 +49,6 @@ fn call_line(c: raw::Call) -> String {
     format!("call {words} {} {} {} {:016x}\n", c.driver, c.name, c.argument, c.level)
 }
 
-fn call_at(b: &[u8]) -> raw::Call {
-    raw::Call {
-        kind: b[0],
-        driver: b[1],
-        name: u16::from_le_bytes([b[2], b[3]]),
-        argument: u32::from_le_bytes([b[4], b[5], b[6], b[7]]),
-        level: u64::from_le_bytes(b[8..16].try_into().expect("eight bytes")),
-    }
-}
-
 fn hex(bytes: &[u8]) -> String {
     bytes.iter().map(|byte| format!("{byte:02x}")).collect()
 }
@@ -82,7 +73,7 @@ fn event_lines(n: usize, s: &mut Session, profile: &[u8], step: &Step) -> String
     let (m, c, saved) = (r.messages, r.calls, u8::from(r.saved));
     let mut lines = format!("event {n} done messages {m} calls {c} used {} saved {saved}\n", r.used);
     lines.extend(messages.chunks(3).map(|m| format!("message {}\n", hex(m))));
-    lines.extend(calls.chunks(16).map(|c| call_line(call_at(c))));
+    lines.extend(calls.chunks(16).map(|c| call_line(recording::call_at(c))));
     if r.saved {
         lines.push_str(&saved_line(s, profile));
     }

@@ -2,6 +2,8 @@
 
 use std::path::PathBuf;
 
+use zelwydro::raw;
+
 pub struct Step {
     /// Saved records to restore, instead of an event.
     pub restores: bool,
@@ -67,4 +69,15 @@ pub fn cases(recording: &[u8]) -> Vec<Case> {
         cases.push(reader.case());
     }
     cases
+}
+
+/// A call out of the call buffer.
+pub fn call_at(b: &[u8]) -> raw::Call {
+    raw::Call {
+        kind: b[0],
+        driver: b[1],
+        name: u16::from_le_bytes([b[2], b[3]]),
+        argument: u32::from_le_bytes([b[4], b[5], b[6], b[7]]),
+        level: u64::from_le_bytes(b[8..16].try_into().expect("eight bytes")),
+    }
 }

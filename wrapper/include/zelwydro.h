@@ -244,7 +244,8 @@ uint8_t zelwydro_examine(const uint8_t *profile, size_t profile_length);
  *
  * event: 16 bytes. Byte 0 its kind, byte 1 the length of its message, 0 to 3, the message from byte 2, the time in seconds at byte 8. Bytes behind the
  * sixteenth are unread.
- * answers: what the devices said to this event's calls so far, 16 bytes each, in order. At first there are none.
+ * answers: what the devices said to this event's calls so far, in order, 16 bytes each; behind a list come its items, 16 bytes each. At first there are
+ * none. An event makes at most 337 calls.
  * messages: at least 306 bytes. calls: at least 5,392 bytes.
  *
  * Waiting: nothing has changed. Make report.call, append its answer to the answers and offer the same event again, with the same time. It makes the same

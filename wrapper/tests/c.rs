@@ -51,11 +51,21 @@ restored 7 bank 1
     assert_eq!(printed("by_value"), expected);
 }
 
-/// A struct's size and where its fields stand, as layout.c prints them.
+fn field_size<S, F>(_: impl Fn(&S) -> &F) -> usize {
+    size_of::<F>()
+}
+
+/// A struct's size, and of each field where it stands and its size, as layout.c prints them.
 macro_rules! layout {
     ($type:ty, $name:literal, $($field:ident)*) => {
-        format!("{} {}", $name, size_of::<$type>())
-            + &[$(format!(" {} {}", stringify!($field), offset_of!($type, $field))),*].concat()
+        [
+            format!("{} {}", $name, size_of::<$type>()),
+            $({
+                let size = field_size(|s: &$type| &s.$field);
+                format!(" {} {} {size}", stringify!($field), offset_of!($type, $field))
+            }),*
+        ]
+        .concat()
     };
 }
 

@@ -1,10 +1,10 @@
-/* Prints, for each struct of the header, its size and where its fields stand. */
+/* Prints, for each struct of the header, its size, and of each field where it stands and its size. */
 #include "zelwydro.h"
 
 #include <stdio.h>
 
 #define SIZE(name) printf(#name " %zu", sizeof(zelwydro_##name))
-#define AT(name, field) printf(" " #field " %zu", offsetof(zelwydro_##name, field))
+#define AT(name, field) printf(" " #field " %zu %zu", offsetof(zelwydro_##name, field), sizeof((zelwydro_##name *)0)->field)
 #define END() printf("\n")
 
 static void parts(void) {

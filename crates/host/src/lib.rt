@@ -1,5 +1,5 @@
 // The bridge for a program in C or Rust: the entry over a session that the program keeps, and what it needs beside it. An enum cannot cross, so that an outcome
-// is told in numbers.
+// is told in numbers. `wrapper/` has the header, and a safe layer in Rust.
 use delivery::Outcome;
 use drivers::Call;
 use session::Session;

@@ -63,6 +63,7 @@ pub fn all() -> Vec<Named> {
     scenes::add_restored(&mut all);
     profiles::add_edges(&mut all);
     most::add(&mut all);
+    scenes::add_drivers(&mut all);
     steps::add_long(&mut all);
     all.cases
 }

@@ -551,3 +551,34 @@ pub fn add_restored(all: &mut All) {
          = scene 0 0",
     );
 }
+
+/// Most and first are told apart: in one bank the most frequent driver stands neither first nor last nor side by side, in
+/// the other the first of a tie has the lower number.
+pub fn add_drivers(all: &mut All) {
+    all.add(
+        "a bank without a driver: the one of most faders, wherever they stand; of a tie the first, not the highest",
+        &[
+            settings(false, true),
+            bank(0, plain(2)),
+            bank(1, plain(3)),
+            fader(0, 1, to(4, 7)),
+            fader(0, 2, to(5, 7)),
+            fader(0, 3, to(6, 7)),
+            fader(0, 4, to(5, 7)),
+            fader(0, 5, to(7, 7)),
+            fader(1, 1, to(4, 7)),
+            fader(1, 2, to(5, 7)),
+            fader(1, 3, to(5, 7)),
+            fader(1, 4, to(4, 7)),
+        ],
+        vec![
+            step(pressed(RIGHT, 0.0), &[refused()]),
+            restore(&[saved_device(3)]),
+            step(pressed(RIGHT, 0.0), &[refused()]),
+        ],
+        "event 0 done messages 0 calls 1 used 1 saved 0
+         call open 5 0 0 0000000000000000
+         event 2 done messages 0 calls 1 used 1 saved 0
+         call open 4 0 0 0000000000000000",
+    );
+}

@@ -2,14 +2,17 @@
 //! of the record layer), builds it in a directory of its own, and tells whether the named cases (without the long
 //! ones) or SEEDS random cases (300, if not given) come out differently.
 //!
+//! `mutants --stored [WORD]`: the same with the stored recording of the port's program `replay` alone. Of a change that
+//! it does not catch, the named cases that do are told.
+//!
 //! With WORD, only the functions whose names have it. A change must be found exactly once in its file. Changes that no input can show say why.
 
 use std::path::{Path, PathBuf};
 use std::process::{Command, Stdio};
 use std::time::{Duration, Instant};
 
-use oracle::recording::{replay, write, Case, Show};
-use oracle::{generate, named};
+use oracle::recording::{read, replay, write, Case, Show};
+use oracle::{generate, named, stored};
 
 struct Mutant {
     file: &'static str,
@@ -245,8 +248,49 @@ fn within(mut command: Command) -> Option<bool> {
     None
 }
 
+/// Cases that a mutant is held against, in a file beside the copy, and what the original prints of each.
+struct Held {
+    file: PathBuf,
+    expected: Vec<String>,
+}
+
+impl Held {
+    fn new(file: PathBuf, cases: &[Case]) -> Result<Self, String> {
+        std::fs::write(&file, write(cases)).map_err(|e| e.to_string())?;
+        Ok(Held { file, expected: cases.iter().map(|c| replay(c, Show::Hash)).collect() })
+    }
+
+    /// The places of the cases that the built copy prints differently. If it stops early, the case that has no lines
+    /// is the last of them.
+    fn differing(&self, at: &Path) -> Result<Vec<usize>, String> {
+        let out = std::fs::File::create(at.join("out.txt")).map_err(|e| e.to_string())?;
+        let mut run = Command::new(at.join("target/debug/replay"));
+        run.arg(&self.file).stdout(out).stderr(Stdio::null());
+        within(run);
+        let printed = std::fs::read_to_string(at.join("out.txt")).map_err(|e| e.to_string())?;
+        let mut left = printed.as_str();
+        let mut places = Vec::new();
+        for (place, lines) in self.expected.iter().enumerate() {
+            let (now, rest) = left.split_at(left.find("\ncase ").map_or(left.len(), |end| end + 1));
+            if now != lines {
+                places.push(place);
+            }
+            if now.is_empty() {
+                break;
+            }
+            left = rest;
+        }
+        Ok(places)
+    }
+}
+
 fn main() -> Result<(), String> {
-    let seeds: u32 = std::env::args().nth(1).map_or(Ok(300), |s| s.parse()).map_err(|_| "mutants [SEEDS [WORD]]")?;
+    let first = std::env::args().nth(1);
+    let by_stored = first.as_deref() == Some("--stored");
+    let seeds: u32 = first
+        .filter(|_| !by_stored)
+        .map_or(Ok(300), |s| s.parse())
+        .map_err(|_| "mutants [SEEDS [WORD]] or mutants --stored [WORD]")?;
     let word = std::env::args().nth(2).unwrap_or_default();
     let home = Path::new(env!("CARGO_MANIFEST_DIR"));
     let copy = Copy(std::env::temp_dir().join(format!("oracle-mutants-{}", std::process::id())));
@@ -255,11 +299,14 @@ fn main() -> Result<(), String> {
     for file in ["Cargo.toml", "Cargo.lock"] {
         std::fs::copy(home.join(file), at.join(file)).map_err(|e| e.to_string())?;
     }
-    let mut cases: Vec<Case> = named::all().into_iter().filter(|c| !c.long).map(|c| c.case).collect();
-    let named_count = cases.len();
-    cases.extend(generate::cases(100_000, seeds));
-    std::fs::write(at.join("cases.bin"), write(&cases)).map_err(|e| e.to_string())?;
-    let expected: Vec<String> = cases.iter().map(|c| replay(c, Show::Hash)).collect();
+    let (names, cases): (Vec<String>, Vec<Case>) =
+        named::all().into_iter().filter(|c| !c.long).map(|c| (c.name, c.case)).unzip();
+    let by_name = Held::new(at.join("named.bin"), &cases)?;
+    let others = match by_stored {
+        true => read(&stored::file("replay", "stdin"))?,
+        false => generate::cases(100_000, seeds).collect(),
+    };
+    let by_others = Held::new(at.join("others.bin"), &others)?;
     let original = |m: &Mutant| std::fs::read_to_string(home.join("src").join(m.file)).map_err(|e| e.to_string());
     for mutant in MUTANTS {
         let found = original(mutant)?.matches(mutant.from).count();
@@ -281,27 +328,24 @@ fn main() -> Result<(), String> {
         if within(build) != Some(true) {
             return Err(format!("does not build: {} -> {}", mutant.from, mutant.to));
         }
-        let out = std::fs::File::create(at.join("out.txt")).map_err(|e| e.to_string())?;
-        let mut run = Command::new(at.join("target/debug/replay"));
-        run.arg(at.join("cases.bin")).stdout(out).stderr(Stdio::null());
-        let ended = within(run);
-        let printed = std::fs::read_to_string(at.join("out.txt")).unwrap_or_default();
-        let by_name = !printed.starts_with(&expected[..named_count].concat());
-        let differs = ended != Some(true) || printed != expected.concat();
-        let how = match (differs, mutant.equal.is_empty()) {
-            (true, _) => {
+        let catches = |held: &Held| held.differing(at).map(|places| !places.is_empty());
+        let by = if by_stored {
+            catches(&by_others)?.then_some("caught by the stored recording")
+        } else if catches(&by_name)? {
+            Some("caught by a named case")
+        } else {
+            catches(&by_others)?.then_some("caught by a random case only")
+        };
+        let how = match (by, mutant.equal.is_empty()) {
+            (Some(by), _) => {
                 caught += 1;
-                if by_name {
-                    "caught by a named case"
-                } else {
-                    "caught by a random case only"
-                }
+                by
             }
-            (false, true) => {
+            (None, true) => {
                 missed += 1;
                 "NOT CAUGHT"
             }
-            (false, false) => {
+            (None, false) => {
                 equal += 1;
                 "equal"
             }
@@ -309,6 +353,9 @@ fn main() -> Result<(), String> {
         let one_line = |text: &str| text.split_whitespace().collect::<Vec<_>>().join(" ");
         let (from, to) = (one_line(mutant.from), one_line(mutant.to));
         println!("{how}: {} {}: {from} -> {to}", mutant.file, mutant.function);
+        if by_stored && by.is_none() {
+            by_name.differing(at)?.iter().for_each(|&place| println!("    a named case does: {}", names[place]));
+        }
         std::fs::write(&changed, original).map_err(|e| e.to_string())?;
     }
     let count = caught + missed + equal;

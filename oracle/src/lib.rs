@@ -4,8 +4,8 @@
 //! `describe` and `state` hold what those two need of their neighbours. The rest is the record layer around
 //! them: `names` (strings as numbers), `records` (profile, events, saved records), `line` (calls and
 //! answers), `session` (one event with its outcome), `recording` (cases for replay), and what makes and checks
-//! cases: `random`, `cases`, `device`, `generate`, `named`, `primitives`, `examined`, `table`, `expect`,
-//! `hashes`.
+//! cases: `random`, `cases`, `device`, `generate`, `named`, `catching`, `primitives`, `examined`, `table`,
+//! `expect`, `hashes`.
 
 #[macro_use]
 mod branch;
@@ -14,6 +14,7 @@ mod branch;
 #[rustfmt::skip]
 pub mod bridge;
 pub mod cases;
+pub mod catching;
 pub mod counters;
 pub mod describe;
 pub mod device;

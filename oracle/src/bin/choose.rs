@@ -1,6 +1,7 @@
 //! `choose SEED COUNT N OUTFILE`: picks about N of the COUNT random cases from SEED on, so that few and small
 //! cases pass every branch, how often an event passes it, every pair of branches passed one after the other,
-//! and every outcome; writes them as one recording.
+//! and every outcome; writes them as one recording, with the named cases of `catching` behind them. These are among
+//! the N, and the recording has room for them.
 //!
 //! The choice is greedy: always the case that shows most that is new for its size, without the steps behind
 //! the last one that shows something new. When nothing is new any more, everything counts as new once again,
@@ -10,7 +11,7 @@ use std::collections::{BinaryHeap, HashMap, HashSet};
 
 use oracle::recording::{write, Case, Kind};
 use oracle::session::{Outcome, Session};
-use oracle::{counters, generate, records};
+use oracle::{catching, counters, generate, records};
 
 /// The recording stays below this.
 const FULL: usize = 590_000;
@@ -97,13 +98,16 @@ fn main() -> Result<(), String> {
         }
         seen.push(Seen { seed, shows: first.into_iter().collect(), sizes });
     }
+    let named = catching::cases()?;
+    let most = most.saturating_sub(named.len());
     let mut chosen: Vec<(u64, usize)> = Vec::new();
     let mut taken: HashSet<usize> = HashSet::new();
-    let mut size = 0;
+    let mut size = write(&named).len();
     let mut rounds = 0;
     while chosen.len() < most {
         rounds += 1;
         let before = chosen.len();
+        let mut full = false;
         let mut covered = vec![false; numbers.len()];
         // How much is new, and how many steps show it.
         let new = |s: &Seen, covered: &[bool]| {
@@ -120,7 +124,11 @@ fn main() -> Result<(), String> {
             let (count, steps) = new(s, &covered);
             let bytes = length(s, steps);
             let now = score(count, bytes);
-            if count == 0 || size + bytes > FULL {
+            if count == 0 {
+                continue;
+            }
+            if size + bytes > FULL {
+                full = true;
                 continue;
             }
             if now < old {
@@ -138,13 +146,18 @@ fn main() -> Result<(), String> {
         }
         let shown = covered.iter().filter(|c| **c).count();
         println!("round {rounds}: {} cases show {shown} of {}", chosen.len() - before, numbers.len());
-        if chosen.len() == before {
+        // A round more would only find the smallest cases a place.
+        if full || chosen.len() == before {
             break;
         }
     }
     chosen.sort_unstable();
-    let cases: Vec<Case> =
-        chosen.iter().enumerate().map(|(id, &(seed, steps))| cut(generate::case(id as u32, seed), steps)).collect();
+    let chosen = chosen.iter().map(|&(seed, steps)| cut(generate::case(0, seed), steps));
+    let mut cases: Vec<Case> = chosen.chain(named).collect();
+    // By its place and not by its seed or index, so that no two cases have the same.
+    for (id, case) in cases.iter_mut().enumerate() {
+        case.id = id as u32;
+    }
     std::fs::write(file, write(&cases)).map_err(|e| format!("{file}: {e}"))?;
     println!("{} cases, {size} bytes", cases.len());
     counters::take();

@@ -3,7 +3,7 @@
 //! ones) or SEEDS random cases (300, if not given) come out differently.
 //!
 //! `mutants --stored [WORD]`: the same with the stored recording of the port's program `replay` alone. Of a change that
-//! it does not catch, the named cases that do are told.
+//! it does not catch, the named cases that do are told: one of them belongs into the list of `catching`.
 //!
 //! With WORD, only the functions whose names have it. A change must be found exactly once in its file. Changes that no input can show say why.
 

@@ -58,6 +58,7 @@ const MUTANTS: &[Mutant] = &[
     protocol("decode", "Some(Event::Button(Button { note, pressed: false }))", "Some(Event::Button(Button { note, pressed: true }))"),
     protocol("Out::bytes", "(raw >> 7) as u8", "(raw >> 8) as u8"),
     protocol("Out::bytes", "0xE0 | (channel & 0x0F)", "0xE0 | (channel & 0x07)"),
+    protocol("led", "    Out::Led { note, on }\n}", "    Out::Led { note, on: !on }\n}"),
     protocol("fader_position", "(value * f64::from(FADER_MAX)).round()", "(value * f64::from(FADER_MAX)).floor()"),
     equal(
         protocol("fader_position", ".clamp(0.0, f64::from(FADER_MAX)) as u16", " as u16"),
@@ -72,6 +73,16 @@ const MUTANTS: &[Mutant] = &[
     bridge("Flash::led", "protocol::led(self.column_row + self.column,", "protocol::led(self.column_row,"),
     bridge("Flash::led", "phase.is_multiple_of(2)", "phase.is_multiple_of(3)"),
     bridge("Bridge::new", "live_due: true,\n            live_at: 0.0,", "live_due: false,\n            live_at: 0.0,"),
+    equal(
+        bridge("with_clock", "self.clock = clock;", "drop(clock);"),
+        "an event runs on a copy, which is handed the event's clock",
+    ),
+    bridge("take_out", "std::mem::take(&mut self.out)", "std::mem::take(&mut self.out).into_iter().rev().collect()"),
+    bridge("send", "self.out.push(out);", "self.out.insert(0, out);"),
+    equal(
+        bridge("log", "(self.log)(line);", "(self.log)(\"\");"),
+        "the text of the log is left out",
+    ),
     bridge("driver", "took!(\"driver: not opened\", !self.drivers.contains_key(name))", "took!(\"driver: not opened\", true)"),
     bridge("driver", "took!(\"driver: opens\", (self.factory)(name, used))", "took!(\"driver: opens\", (self.factory)(name, \"\"))"),
     bridge("read", "((raw - low) / (high - low)).clamp(0.0, 1.0)", "((raw - low) / (high - low)).max(0.0).min(1.0)"),
@@ -79,6 +90,7 @@ const MUTANTS: &[Mutant] = &[
     bridge("write", "d.write(dest.target(), low + value * (high - low))", "d.write(dest.target(), low * (1.0 - value) + value * high)"),
     bridge("write", "branch!(\"write: refused\");", "return true;"),
     bridge("read_mute", "took!(\"read_mute: muted\", v >= 0.5)", "took!(\"read_mute: muted\", v > 0.5)"),
+    bridge("base", "self.profile.bank(self.bank_index as i64)\n", "self.profile.bank(self.bank_index as i64 - 1)\n"),
     bridge("faders", "took!(\"faders: live bank\", self.base().live.is_some())", "took!(\"faders: live bank\", self.live.contains_key(&self.bank_index))"),
     bridge("refresh_live", "        self.live_due = false;\n        let i", "        let i"),
     bridge("refresh_live", "(1..=8).contains(n)", "(1..8).contains(n)"),

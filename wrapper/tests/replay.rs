@@ -1,13 +1,16 @@
-//! The stored recording through the exported functions: every line must be what the oracle printed, and what is lent
-//! must be left alone but for what the report says.
+//! Cases of the oracle through the exported functions: every line must be what the Rust bridge says, and what is lent must
+//! be left alone but for what the report says.
+//!
+//! ZELWYDRO_SEED and ZELWYDRO_COUNT in the environment have other random cases compared, or more of them.
 
-mod recording;
 mod safe;
 mod session;
 
+use std::env;
 use std::fmt::Write;
 
-use recording::{Case, Step};
+use oracle::recording::{hex, read, replay, Case, Kind, Show, Step};
+use oracle::{generate, named, stored};
 use zelwydro::raw::{self, Report, Session};
 
 const CALL_WORDS: [&str; 10] =
@@ -49,8 +52,15 @@ fn call_line(c: raw::Call) -> String {
     format!("call {words} {} {} {} {:016x}\n", c.driver, c.name, c.argument, c.level)
 }
 
-fn hex(bytes: &[u8]) -> String {
-    bytes.iter().map(|byte| format!("{byte:02x}")).collect()
+/// A call out of the call buffer.
+fn call_at(b: &[u8]) -> raw::Call {
+    raw::Call {
+        kind: b[0],
+        driver: b[1],
+        name: u16::from_le_bytes([b[2], b[3]]),
+        argument: u32::from_le_bytes([b[4], b[5], b[6], b[7]]),
+        level: u64::from_le_bytes(b[8..16].try_into().expect("eight bytes")),
+    }
 }
 
 fn saved_line(s: &Session, profile: &[u8]) -> String {
@@ -61,7 +71,7 @@ fn saved_line(s: &Session, profile: &[u8]) -> String {
 }
 
 fn event_lines(n: usize, s: &mut Session, profile: &[u8], step: &Step) -> String {
-    let (mut messages, mut calls) = (Lent::new(step.message_room), Lent::new(step.call_room));
+    let (mut messages, mut calls) = (Lent::new(step.message_room as usize), Lent::new(step.call_room as usize));
     let r = raw::on_event(s, profile, &step.record, &step.answers, &mut messages.after, &mut calls.after);
     assert!(whole(&r), "{r:?}");
     let (messages, calls) = (messages.written(3 * r.messages), calls.written(16 * r.calls));
@@ -73,7 +83,7 @@ fn event_lines(n: usize, s: &mut Session, profile: &[u8], step: &Step) -> String
     let (m, c, saved) = (r.messages, r.calls, u8::from(r.saved));
     let mut lines = format!("event {n} done messages {m} calls {c} used {} saved {saved}\n", r.used);
     lines.extend(messages.chunks(3).map(|m| format!("message {}\n", hex(m))));
-    lines.extend(calls.chunks(16).map(|c| call_line(recording::call_at(c))));
+    lines.extend(calls.chunks(16).map(|c| call_line(call_at(c))));
     if r.saved {
         lines.push_str(&saved_line(s, profile));
     }
@@ -98,9 +108,9 @@ fn case_lines(case: &Case) -> String {
     }
     let mut s = raw::fresh();
     for (n, step) in case.steps.iter().enumerate() {
-        lines.push_str(&match step.restores {
-            false => event_lines(n, &mut s, &case.profile, step),
-            true => restore_lines(n, &mut s, &case.profile, &step.record),
+        lines.push_str(&match step.kind {
+            Kind::Event => event_lines(n, &mut s, &case.profile, step),
+            Kind::Restore => restore_lines(n, &mut s, &case.profile, &step.record),
         });
         let hash = session::hash(&session::text(&s, &case.profile));
         writeln!(lines, "session {hash:016x}").expect("a string takes all");
@@ -108,19 +118,40 @@ fn case_lines(case: &Case) -> String {
     lines
 }
 
+/// Stops at the first line that is another than the Rust's.
+fn same(case: &Case, rust: &str) {
+    let ours = case_lines(case);
+    for (our, their) in ours.lines().zip(rust.lines()) {
+        assert_eq!(our, their, "in case {}", case.id);
+    }
+    assert!(ours == rust, "case {}: one has more lines", case.id);
+}
+
+/// A number of the environment, or else the one given here.
+fn setting(name: &str, or: u32) -> u32 {
+    env::var(name).map_or(or, |word| word.parse().unwrap_or_else(|why| panic!("{name}: {why}")))
+}
+
 #[test]
 fn the_stored_recording_prints_the_stored_lines() {
-    let cases = recording::cases(&recording::stored("stdin"));
-    let stored = String::from_utf8(recording::stored("stdout")).expect("text");
-    let mut expected = stored.lines();
-    for case in &cases {
-        for line in case_lines(case).lines() {
-            assert_eq!(Some(line), expected.next(), "in case {}", case.id);
-        }
+    let cases = read(&stored::file("replay", "stdin")).expect("a whole recording");
+    let lines: String = cases.iter().map(case_lines).collect();
+    stored::holds("replay", &lines);
+}
+
+#[test]
+fn the_named_cases_are_the_rusts() {
+    for named in named::all() {
+        same(&named.case, &replay(&named.case, Show::Hash));
     }
-    assert_eq!(expected.next(), None, "behind the last case");
-    assert!(!cases.is_empty());
-    println!("{} cases, {} lines", cases.len(), stored.lines().count());
+}
+
+#[test]
+fn random_cases_are_the_rusts() {
+    let (seed, count) = (setting("ZELWYDRO_SEED", 30_000_001), setting("ZELWYDRO_COUNT", 20_000));
+    for case in generate::cases(seed.into(), count) {
+        same(&case, &replay(&case, Show::Hash));
+    }
 }
 
 #[test]

@@ -1,7 +1,9 @@
 //! The safe functions over the stored recording: what they say must be what the functions as they are say.
 //! Both have buffers that are long enough, whatever the recording says.
 
-use crate::recording::{self, Case, Step};
+use crate::call_at;
+use oracle::recording::{read, Case, Kind, Step};
+use oracle::stored;
 use zelwydro::raw::{self, Session};
 use zelwydro::{Bridge, Call, CallKind, Done, Event, Input, Outcome, Refused};
 
@@ -45,7 +47,7 @@ fn outcome(s: &mut Session, profile: &[u8], step: &Step) -> Outcome {
     match r.kind {
         raw::DONE => Outcome::Done(Done {
             messages: messages[..3 * r.messages].chunks(3).map(|m| [m[0], m[1], m[2]]).collect(),
-            calls: calls[..16 * r.calls].chunks(16).map(|c| call(recording::call_at(c))).collect(),
+            calls: calls[..16 * r.calls].chunks(16).map(|c| call(call_at(c))).collect(),
             used: r.used,
             saved: r.saved,
         }),
@@ -56,7 +58,7 @@ fn outcome(s: &mut Session, profile: &[u8], step: &Step) -> Outcome {
 
 /// Takes the step on both sides; texts are compared, since a level may be NaN.
 fn same_step(bridge: &mut Bridge, s: &mut Session, profile: &[u8], step: &Step) {
-    if step.restores {
+    if step.kind == Kind::Restore {
         let restored = raw::restore(s, profile, &step.record);
         *s = restored.session;
         assert_eq!(bridge.restore(&step.record).map_or_else(|refused| refused.0, |()| 0), restored.why);
@@ -85,5 +87,6 @@ fn same_case(case: &Case) {
 
 #[test]
 fn the_safe_functions_say_what_the_exported_ones_say() {
-    recording::cases(&recording::stored("stdin")).iter().for_each(same_case);
+    let cases = read(&stored::file("replay", "stdin")).expect("a whole recording");
+    cases.iter().for_each(same_case);
 }

@@ -26,11 +26,6 @@ pub struct Report {
     pub call: Call,
 }
 
-struct Reported {
-    report: Report,
-    session: Session,
-}
-
 fn no_call() -> Call
     ensures { λ r. ⌜ r ≡ noCall ⌝ }
 {
@@ -88,27 +83,6 @@ fn numbers(o: Outcome) -> Report
     }
 }
 
-// The by-value core, with its outcome in numbers.
-fn told(
-    session: Session,
-    profile: &[u8],
-    event: &[u8],
-    answers: &[u8],
-    messages: &mut [u8],
-    calls: &mut [u8],
-) -> Reported
-    ensures { λ r. ⌜ Reports (whole (now (profile .entry)) session (now (event .entry)) (now (answers .entry)) (length (now (messages .entry))) (length (now (calls .entry)))) (now (profile .entry)) session (now (messages .entry)) (now (calls .entry)) (r .report) (r .session) (now (messages .exit)) (now (calls .exit)) ⌝ }
-{
-    let s = bridge::step(session, profile, event, answers, messages, calls);
-    let o = s.outcome;
-    let t = s.session;
-    let n = numbers(o);
-    Reported {
-        report: n,
-        session: t,
-    }
-}
-
 // One event. A refused or waiting one leaves the session and all lent memory as they were.
 #[no_mangle]
 pub extern "C" fn zelwydro_on_event(
@@ -121,9 +95,9 @@ pub extern "C" fn zelwydro_on_event(
 ) -> Report
     ensures { λ r. ⌜ Reports (whole (now (profile .entry)) (now (session .entry)) (now (event .entry)) (now (answers .entry)) (length (now (messages .entry))) (length (now (calls .entry)))) (now (profile .entry)) (now (session .entry)) (now (messages .entry)) (now (calls .entry)) r (now (session .exit)) (now (messages .exit)) (now (calls .exit)) ⌝ }
 {
-    let r = told(*session, profile, event, answers, messages, calls);
+    let r = bridge::step(*session, profile, event, answers, messages, calls);
     *session = r.session;
-    r.report
+    numbers(r.outcome)
 }
 
 // A session that has seen nothing.

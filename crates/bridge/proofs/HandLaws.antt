@@ -241,24 +241,24 @@ module _ (p : List ℕ) (s : Session) (ch : ℕ) (delta : ℤ) where
   module _ (e : wellShaped p s ≡ true) where
     -- no encoder is there
     pub unwired : (o : Outcome) → o ≡ outcome.Done 0 0 0 false → encoderPlace p (s .bank) (ch + 1) ≡ place.Nothing →
-        TurnsAs p s ch delta (record { outcome = o; session = s })
+        TurnsAs p s ch delta (record { outcome = o; session = s; changed = false })
     unfolding seen joined encode
     unwired o q bare now answers ms cs =
         rw (encoder-ends now answers place.Nothing bare)
-        (record { outcome = q; session = refl; still = λ i. absurd (true≢false i); shaped = λ _. e; messages = refl; calls = refl; few = (omega arith, omega arith) })
+        (record { outcome = q; session = refl; still = λ i. absurd (true≢false i); same = λ _. refl; shaped = λ _. e; messages = refl; calls = refl; few = (omega arith, omega arith) })
 
     -- a turn that is declined
     pub unturned : (k why : ℕ) → encoderPlace p (s .bank) (ch + 1) ≡ place.At k → why ≡ declinedBy (find (isDest (destAt p k)) turns) delta turns → (why ≡ 0 → ⊥) →
-        TurnsAs p s ch delta (record { outcome = outcome.Refused why; session = s })
+        TurnsAs p s ch delta (record { outcome = outcome.Refused why; session = s; changed = false })
     unturned k why q d declines now answers ms cs =
         rw (encoder-ends now answers (place.At k) q, ← d, ne-eqb why 0 declines)
-        (record { outcome = refl; session = refl; still = λ _. refl; shaped = λ _. e; messages = refl; calls = refl; few = tt })
+        (record { outcome = refl; session = refl; still = λ _. refl; same = λ _. refl; shaped = λ _. e; messages = refl; calls = refl; few = tt })
 
     -- a turn that adds to its sum: `after` is what the sums are then
     pub turned : (k : ℕ) (after : Turns) (o : Outcome) → verdict p ≡ 0 → length (s .opened) ≡ 16 → ch < 8 → inRange delta ≡ true →
         encoderPlace p (s .bank) (ch + 1) ≡ place.At k → declinedBy (find (isDest (destAt p k)) turns) delta turns ≡ 0 →
         seenTurns p after ≡ turn (destAt p k) delta turns → allOf (isEncoder p) (take (after .count) (after .records)) ≡ true → after .count ≤ 136 →
-        o ≡ outcome.Done 0 0 0 false → TurnsAs p s ch delta (record { outcome = o; session = withTurns s after })
+        o ≡ outcome.Done 0 0 0 false → TurnsAs p s ch delta (record { outcome = o; session = withTurns s after; changed = true })
     unfolding seen joined encode
     turned k after o accepted long low small q d sums wired few r now answers ms cs =
         let x = encoder-ends now answers (place.At k) q in
@@ -276,6 +276,7 @@ module _ (p : List ℕ) (s : Session) (ch : ℕ) (delta : ℤ) where
           outcome = r;
           session = z;
           still = λ i. absurd (true≢false i);
+          same = λ i. absurd (true≢false i);
           shaped = λ _. shaped-again p (withTurns s after) v (record { line = f .line; turns = few; encoders = wired; silenced = f .silenced; live = f .live });
           messages = refl;
           calls = refl;
@@ -351,7 +352,7 @@ module _ (p : List ℕ) (s : Session) (ch : ℕ) (value : Float) (answers : List
     module _ (o : Outcome) (ms₀ cs₀ ms₁ cs₁ : List ℕ) (ho : o ≡ outcomeOf (endOf line false)) (hm : ms₁ ≡ messagesAfter (endOf line false) ms₀)
         (hc : cs₁ ≡ callsAfter (endOf line false) cs₀) where
       -- one that waits or is refused
-      pub unmoved : isDone (endOf line false) ≡ false → Moves p s ch value answers ms₀ cs₀ (record { outcome = o; session = s }) ms₁ cs₁
+      pub unmoved : isDone (endOf line false) ≡ false → Moves p s ch value answers ms₀ cs₀ (record { outcome = o; session = s; changed = false }) ms₁ cs₁
       unmoved q now =
           undone-delivers p accepted s (well-seen p s long e) (movedAt now ch value) answers (free now) o ms₀ cs₀ ms₁ cs₁ (ap isDone (end-is now) ∙ q)
           (ho ∙ ap outcomeOf (sym (end-is now))) (hm ∙ ap (λ (x : Ended). messagesAfter x ms₀) (sym (end-is now)))
@@ -359,7 +360,7 @@ module _ (p : List ℕ) (s : Session) (ch : ℕ) (value : Float) (answers : List
 
       -- one that is done
       pub moved : isDone (endOf line false) ≡ true → (x : Session) → after.Fades s v (s .bank * 16 + ch) ch value (line .opened) x → KeepsPlaces s x →
-          Moves p s ch value answers ms₀ cs₀ (record { outcome = o; session = x }) ms₁ cs₁
+          Moves p s ch value answers ms₀ cs₀ (record { outcome = o; session = x; changed = true }) ms₁ cs₁
       moved q x fades keeps now =
           done-delivers p accepted s (well-seen p s long e) (movedAt now ch value) answers (free now) low o x ms₀ cs₀ ms₁ cs₁ (ap isDone (end-is now) ∙ q)
           (fades p ∙ ap (λ (g : Got Left). keptWith (g .value) (g .talk .opened)) (sym (did-is now))) (keeps p (places p s e))
@@ -371,7 +372,7 @@ pub in-control : (p : List ℕ) (s : Session) (ch : ℕ) (value : Float) (answer
     v ≡ controlled (destination (rigIn p c) (ch + 1)) → isMarked (s .bank * 16 + ch) (s .marks) ≡ true → verdict p ≡ 0 → wellShaped p s ≡ true →
     length (s .opened) ≡ 16 → ch < 16 → (o : Outcome) → o ≡ outcome.Done 0 0 0 false → (x : Session) →
     after.Fades s v (s .bank * 16 + ch) ch value (s .opened) x → KeepsPlaces s x → (ms cs : List ℕ) →
-    Moves p s ch value answers ms cs (record { outcome = o; session = x }) ms cs
+    Moves p s ch value answers ms cs (record { outcome = o; session = x; changed = true }) ms cs
 unfolding joined encode
 in-control p s ch value answers c i v q m accepted e long low o ho x fades keeps ms cs =
     moved p s ch value answers c i v (start answers (s .opened)) (unasked p s ch value answers c v q m) accepted e long low o ms cs ms cs ho refl refl refl x fades

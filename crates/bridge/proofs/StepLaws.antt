@@ -114,18 +114,23 @@ room-for p ok k well e answers free io cs ms q h =
 
 -- ── what is delivered ──
 
-abbrev pub stepOf : Outcome → Session → declared.Stepped
-stepOf o s = record { outcome = o; session = s }
+-- with the session that was handed in, and with another
+abbrev pub stays : Outcome → Session → declared.Stepped
+stays o s = record { outcome = o; session = s; changed = false }
+
+abbrev pub goes : Outcome → Session → declared.Stepped
+goes o s = record { outcome = o; session = s; changed = true }
 
 -- a refused event leaves all as it was
 pub declines : (d : Stepped) (why : ℕ) (p : List ℕ) (s : Session) (ms cs : List ℕ) → d ≡ stepped (refused why) (seen p s) →
-    Delivers d p s ms cs (stepOf (outcome.Refused why) s) ms cs
+    Delivers d p s ms cs (stays (outcome.Refused why) s) ms cs
 declines d why p s ms cs q =
     rw q
     (record {
       outcome = refl;
       session = refl;
       still = λ h. refl;
+      same = λ h. refl;
       shaped = λ h. absurd (false≢true h);
       messages = refl;
       calls = refl;
@@ -134,7 +139,7 @@ declines d why p s ms cs q =
 
 -- an event that did nothing
 pub does-nothing : (d : Stepped) (p : List ℕ) (s : Session) (ms cs : List ℕ) → wellShaped p s ≡ true → d ≡ stepped (done [] [] 0 false) (seen p s) →
-    Delivers d p s ms cs (stepOf (outcome.Done 0 0 0 false) s) ms cs
+    Delivers d p s ms cs (stays (outcome.Done 0 0 0 false) s) ms cs
 unfolding joined encode
 does-nothing d p s ms cs w q =
     rw q
@@ -142,6 +147,7 @@ does-nothing d p s ms cs w q =
       outcome = refl;
       session = refl;
       still = λ h. absurd (true≢false h);
+      same = λ h. refl;
       shaped = λ h. w;
       messages = refl;
       calls = refl;
@@ -173,13 +179,14 @@ module _ (p : List ℕ) (ok : verdict p ≡ 0) (s : Session) (well : Well p (see
 
   -- an event that stopped leaves all as it was
   pub undone-delivers : (o : Outcome) (ms cs ms₁ cs₁ : List ℕ) → isDone end ≡ false → o ≡ outcomeOf end → ms₁ ≡ messagesAfter end ms → cs₁ ≡ callsAfter end cs →
-      Delivers (step v (seen p s) e answers) p s ms cs (stepOf o s) ms₁ cs₁
+      Delivers (step v (seen p s) e answers) p s ms cs (stays o s) ms₁ cs₁
   undone-delivers o ms cs ms₁ cs₁ u ho hm hc =
       record {
         outcome = rw end-is ho;
         session =
             sym (ap (λ (x : Stepped). x .kept) (step-runs v (seen p s) e answers free) ∙ undone-keeps v (seen p s) (did v (seen p s) e answers) u);
         still = λ h. refl;
+        same = λ h. refl;
         shaped = λ h. absurd (false≢true (sym u ∙ ap isDone (sym end-is) ∙ h));
         messages = rw end-is hm;
         calls = rw end-is hc;
@@ -190,7 +197,7 @@ module _ (p : List ℕ) (ok : verdict p ≡ 0) (s : Session) (well : Well p (see
   pub done-delivers : LowInput (e .what) → (o : Outcome) (r : Session) (ms cs ms₁ cs₁ : List ℕ) → isDone end ≡ true →
       seen p r ≡ keptWith ((did v (seen p s) e answers) .value) ((did v (seen p s) e answers) .talk .opened) → Places p r →
       o ≡ outcomeOf end → ms₁ ≡ messagesAfter end ms → cs₁ ≡ callsAfter end cs →
-      Delivers (step v (seen p s) e answers) p s ms cs (stepOf o r) ms₁ cs₁
+      Delivers (step v (seen p s) e answers) p s ms cs (goes o r) ms₁ cs₁
   done-delivers low o r ms cs ms₁ cs₁ u q f ho hm hc =
       let kept-is : seen p r ≡ step v (seen p s) e answers .kept =
       q ∙ sym (ap (λ (x : Stepped). x .kept) (step-runs v (seen p s) e answers free) ∙ done-keeps v (seen p s) (did v (seen p s) e answers) u) in
@@ -198,6 +205,7 @@ module _ (p : List ℕ) (ok : verdict p ≡ 0) (s : Session) (well : Well p (see
         outcome = rw end-is ho;
         session = kept-is;
         still = λ h. absurd (true≢false (sym u ∙ ap isDone (sym end-is) ∙ h));
+        same = λ h. absurd (true≢false h);
         shaped = λ h. shaped-again p r (subst (λ (x : Kept). Well p x) (sym kept-is) (step-well p ok (seen p s) well e low answers)) f;
         messages = rw end-is hm;
         calls = rw end-is hc;

@@ -60,7 +60,7 @@ use Rattle.bridge.specs.Acts.{Given, Leaves, tickBehind, behind}
 use Rattle.bridge.proofs.Fit.{row-low}
 use Rattle.bridge.proofs.ButtonsLaws.{next-low}
 use Rattle.bridge.proofs.HandLaws.{rig-is}
-use Rattle.bridge.proofs.StepLaws.{stepOf, room-for, undone-delivers, done-delivers, runs-low}
+use Rattle.bridge.proofs.StepLaws.{stays, goes, room-for, undone-delivers, done-delivers, runs-low}
 
 -- ── a press adds at most sixteen ──
 
@@ -330,13 +330,13 @@ module _ (p : List ℕ) (s : Session) (e : Timed) (answers : List ℕ) (here : C
 module _ (p : List ℕ) (ok : verdict p ≡ 0) (s : Session) (well : Well p (seen p s)) (e : Timed) (answers : List ℕ)
     (free : refusal (e .what) (viewOf p) (seen p s) (e .time) ≡ 0) (ms cs : List ℕ) (r : Talked) (ts : List ℕ) (ls : List Float) (ms₁ cs₁ : List ℕ)
     (t : Talks p s e answers ms cs (rememberOf p) r (hushedUpTo (r .left .hushed) ts ls) ms₁ cs₁) where
-  pub talked-undone : r .ended .done ≡ false → Delivers (step (viewOf p) (seen p s) e answers) p s ms cs (stepOf (r .ended .outcome) s) ms₁ cs₁
+  pub talked-undone : r .ended .done ≡ false → Delivers (step (viewOf p) (seen p s) e answers) p s ms cs (stays (r .ended .outcome) s) ms₁ cs₁
   unfolding actOf seen
   talked-undone h = undone-delivers p ok s well e answers free (r .ended .outcome) ms cs ms₁ cs₁ (sym (t .done) ∙ h) (t .outcome) (t .messages) (t .calls)
 
   pub talked-done : runs (e .what) ≡ true → r .ended .done ≡ true → (at : Setting) → at ≡ settingOf p s e → (x : Session) →
       Lasts s at (r .left) (record { targets = ts; levels = ls; count = r .left .hushed }) (r .ended .opened) (e .time) x → KeepsPlaces s x → Places p s →
-      Delivers (step (viewOf p) (seen p s) e answers) p s ms cs (stepOf (r .ended .outcome) x) ms₁ cs₁
+      Delivers (step (viewOf p) (seen p s) e answers) p s ms cs (goes (r .ended .outcome) x) ms₁ cs₁
   unfolding actOf seen
   talked-done runs-so h at hat x lasts keeps places =
       let same : leftOf (seen p s) (at .ticks) (at .due) (e .time) (r .left) (hushedUpTo (r .left .hushed) ts ls) ≡ actOf p s e answers .value =

@@ -55,6 +55,7 @@ pub record Delivers (d : Stepped) (p : List ℕ) (s : Session) (ms cs : List ℕ
   pub outcome : r .outcome ≡ outcomeOf (d .ended)
   pub session : seen p (r .session) ≡ d .kept
   pub still : isDone (d .ended) ≡ false → r .session ≡ s
+  pub same : r .changed ≡ false → r .session ≡ s
   pub shaped : isDone (d .ended) ≡ true → wellShaped p (r .session) ≡ true
   pub messages : ms₁ ≡ messagesAfter (d .ended) ms
   pub calls : cs₁ ≡ callsAfter (d .ended) cs

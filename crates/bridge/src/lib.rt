@@ -46,9 +46,11 @@ ghost use Rattle.bounds.specs.Room.{LowInput};
 ghost use Rattle.delivery.specs.declared.Outcome.the-variants as outcome;
 ghost use Rattle.bridge.specs.Bridge.{Delivers, IsCurrent, isIdle, drainIf, Moves as MovesAs, Turns as TurnsAs, settingOf, Talks};
 
+// What became of an event, the session after it, and whether that is another than the one that was handed in.
 pub struct Stepped {
     pub outcome: Outcome,
     pub session: Session,
+    pub changed: bool,
 }
 
 // An event that asked and sent nothing.
@@ -109,6 +111,7 @@ fn on_fader(
         return Stepped {
             outcome: o,
             session: t,
+            changed: true,
         };
     }
     let last = session::last_move(session.moves, k);
@@ -135,6 +138,7 @@ fn on_fader(
         return Stepped {
             outcome: o,
             session: session,
+            changed: false,
         };
     }
     let open = e.opened;
@@ -142,6 +146,7 @@ fn on_fader(
     Stepped {
         outcome: o,
         session: t,
+        changed: true,
     }
 }
 
@@ -160,6 +165,7 @@ fn on_encoder(session: Session, profile: &[u8], channel: u8, delta: i32) -> Step
         return Stepped {
             outcome: o,
             session: session,
+            changed: false,
         };
     };
     let k = at as u16;
@@ -172,6 +178,7 @@ fn on_encoder(session: Session, profile: &[u8], channel: u8, delta: i32) -> Step
         return Stepped {
             outcome: Outcome::Refused(why),
             session: session,
+            changed: false,
         };
     }
     let count = session::turned(profile, &mut records, &mut sums, n, k, delta);
@@ -204,6 +211,7 @@ fn on_encoder(session: Session, profile: &[u8], channel: u8, delta: i32) -> Step
     Stepped {
         outcome: o,
         session: t,
+        changed: true,
     }
 }
 
@@ -495,6 +503,7 @@ fn on_other(
         return Stepped {
             outcome: Outcome::Refused(11),
             session: session,
+            changed: false,
         };
     }
     let at = setting_of(session, profile, e);
@@ -518,6 +527,7 @@ fn on_other(
         return Stepped {
             outcome: o,
             session: session,
+            changed: false,
         };
     }
     let left = t.left;
@@ -531,6 +541,7 @@ fn on_other(
     Stepped {
         outcome: o,
         session: s,
+        changed: true,
     }
 }
 
@@ -570,6 +581,7 @@ fn on_event(
         return Stepped {
             outcome: o,
             session: session,
+            changed: false,
         };
     }
     match which::hand_of(what) {
@@ -597,6 +609,7 @@ pub fn step(
         return Stepped {
             outcome: Outcome::Refused(why),
             session: session,
+            changed: false,
         };
     }
     let line = session.line;
@@ -619,12 +632,14 @@ pub fn step(
         return Stepped {
             outcome: Outcome::Refused(8),
             session: session,
+            changed: false,
         };
     }
     if (messages.len() < 306) | (calls.len() < 5392) {
         return Stepped {
             outcome: Outcome::Refused(9),
             session: session,
+            changed: false,
         };
     }
     match event::read_event(event) {
@@ -632,6 +647,7 @@ pub fn step(
         Read::Unknown => Stepped {
             outcome: Outcome::Refused(10),
             session: session,
+            changed: false,
         },
     }
 }

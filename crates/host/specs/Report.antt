@@ -1,7 +1,7 @@
 -- What a program that calls the bridge is told of an event: document 01's numbers and values for each outcome. Definitions only.
 use Prim.Native.Nat.{ℕ}
 use mathlib.Core.Path.{_≡_}
-use mathlib.Core.Bool.{false}
+use mathlib.Core.Bool.{true, false}
 use mathlib.Core.List.{List}
 use Rattle.drivers.specs.declared.Call.{Call}
 use Rattle.session.specs.declared.Session.{Session}
@@ -22,7 +22,7 @@ reportOf (Done m c u s) = record { kind = 0; number = 0; saved = s; messages = m
 reportOf (Refused n) = record { kind = 1; number = n; saved = false; messages = 0; calls = 0; used = 0; call = noCall }
 reportOf (Waiting c) = record { kind = 2; number = 0; saved = false; messages = 0; calls = 0; used = 0; call = c }
 
--- what `bridge::step` promises, with the outcome in numbers; s₁ is the session after the event
+-- what `bridge::step` promises, with the outcome in numbers; s₁ is the session after the event. Whether it is another one is not told
 abbrev pub Reports : Stepped → List ℕ → Session → List ℕ → List ℕ → Report → Session → List ℕ → List ℕ → Type 0
 Reports d p s ms cs r s₁ ms₁ cs₁ =
-    (r ≡ reportOf (outcomeOf (d .ended))) × Delivers d p s ms cs (record { outcome = outcomeOf (d .ended); session = s₁ }) ms₁ cs₁
+    (r ≡ reportOf (outcomeOf (d .ended))) × Delivers d p s ms cs (record { outcome = outcomeOf (d .ended); session = s₁; changed = true }) ms₁ cs₁

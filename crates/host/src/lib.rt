@@ -96,7 +96,9 @@ pub extern "C" fn zelwydro_on_event(
     ensures { λ r. ⌜ Reports (whole (now (profile .entry)) (now (session .entry)) (now (event .entry)) (now (answers .entry)) (length (now (messages .entry))) (length (now (calls .entry)))) (now (profile .entry)) (now (session .entry)) (now (messages .entry)) (now (calls .entry)) r (now (session .exit)) (now (messages .exit)) (now (calls .exit)) ⌝ }
 {
     let r = bridge::step(*session, profile, event, answers, messages, calls);
-    *session = r.session;
+    if r.changed {
+        *session = r.session;
+    }
     numbers(r.outcome)
 }
 

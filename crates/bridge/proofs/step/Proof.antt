@@ -11,7 +11,7 @@ use Rattle.shape.specs.PartsLaws.{own-parts}
 use Rattle.definition.specs.Whole.{whole}
 use Rattle.delivery.specs.declared.Outcome.the-variants as outcome
 use Rattle.bridge.specs.Bridge.{Delivers, declinedOf}
-use Rattle.bridge.proofs.StepLaws.{stepOf, declines, whole-declines, passes, passes-on, unread}
+use Rattle.bridge.proofs.StepLaws.{stays, declines, whole-declines, passes, passes-on, unread}
 use borrow.Author.Needs.{needs}
 use Rattle.bridge.proofs.step.Statement.{statement}
 use Rattle.bridge.proofs.step.Tie as tie
@@ -44,7 +44,7 @@ declined-by : (x : tie.After-examine) (why : ℕ) → numberOf x ≡ why → (wh
     let b = begun x in
     Delivers
     (whole (b .args .profile .now) (b .args .session) (b .args .event .now) (b .args .answers .now) (length (b .args .messages .now)) (length (b .args .calls .now)))
-    (b .args .profile .now) (b .args .session) (b .args .messages .now) (b .args .calls .now) (stepOf (outcome.Refused why) (b .args .session)) (b .args .messages .now)
+    (b .args .profile .now) (b .args .session) (b .args .messages .now) (b .args .calls .now) (stays (outcome.Refused why) (b .args .session)) (b .args .messages .now)
     (b .args .calls .now)
 declined-by x why q n =
     let b = begun x in

@@ -1,4 +1,5 @@
 pub mod Fit
+pub mod ShapedLaws
 pub mod ButtonsLaws
 pub mod PressLaws
 pub mod ActsLaws

@@ -4,12 +4,10 @@ use Prim.Native.Nat.{ℕ}
 use mathlib.Core.Path.{_≡_, refl, sym, ap, subst, _∙_}
 use mathlib.Core.Bool.{Bool, true, false, _||_}
 use mathlib.Core.List.{List, [], _∷_, map}
-use native.Mathlib.Omega.{arith}
 use lib.Dec.{eqb, ltb}
 use lib.ListN.{length}
 use borrow.Author.Tests.{eq-eqb}
 use Rattle.base.specs.Choice.{pick}
-use Rattle.base.specs.Keyed.{allOf, beside}
 use Rattle.profile.specs.Profile.{verdict}
 use Rattle.lookup.specs.View.{viewOf}
 use Rattle.session.specs.Session.{freshSession}
@@ -18,31 +16,12 @@ use Rattle.event.specs.Event.{readOf}
 use Rattle.event.specs.declared.Read.{Read}
 use Rattle.event.specs.declared.Read.the-variants.{Known, Unknown}
 use Rattle.definition.specs.Shape.{wellShaped}
-use Rattle.definition.specs.Step.{Kept, freshKept, Ended, Stepped, stepped, refused, seen, step}
+use Rattle.definition.specs.Step.{Kept, freshKept, Ended, stepped, refused, seen, step}
 use Rattle.definition.specs.Whole.{whole, offered}
-use Rattle.bounds.specs.Well.{Well}
-use Rattle.bounds.specs.WellStep.{fresh-well}
 use Rattle.account.specs.Account.{Holds, Offer, stepOf, pasts, final, account, blank}
 use Rattle.account.proofs.Theorem.{demand-3-of}
-use Rattle.after.specs.After.{Places}
-use Rattle.delivery.specs.Delivery.{isDone}
-use Rattle.bridge.specs.Bridge.{Delivers}
-use Rattle.bridge.specs.declared.Stepped as declared
-use Rattle.bridge.proofs.Fit.{shaped-again}
+use Rattle.bridge.proofs.ShapedLaws.{fresh-seen, fresh-shaped, stays-shaped}
 use Rattle.demands.specs.Running.{Step, Does, Runs, offerOf}
-
--- ── a fresh session ──
-
-fresh-seen : (p : List ℕ) → seen p freshSession ≡ freshKept
-unfolding seen freshSession beside
-fresh-seen p = refl
-
-fresh-places : (p : List ℕ) → Places p freshSession
-unfolding freshSession allOf
-fresh-places p = record { line = omega arith; turns = omega arith; encoders = refl; silenced = omega arith; live = refl }
-
-fresh-shaped : (p : List ℕ) → verdict p ≡ 0 → wellShaped p freshSession ≡ true
-fresh-shaped p ok = shaped-again p freshSession (subst (λ (k : Kept). Well p k) (sym (fresh-seen p)) (fresh-well p ok)) (fresh-places p)
 
 -- ── one call ──
 
@@ -63,14 +42,6 @@ module _ (p : List ℕ) (ok : verdict p ≡ 0) (s : Session) (shaped : wellShape
       room-at true = refl
       room-at false = read-at (readOf event)
 
-  -- and leaves a well-shaped session
-  stays-shaped : (d : Stepped) (ms cs : List ℕ) (r : declared.Stepped) (ms₁ cs₁ : List ℕ) → Delivers d p s ms cs r ms₁ cs₁ → wellShaped p (r .session) ≡ true
-  stays-shaped d ms cs r ms₁ cs₁ x = at (isDone (d .ended)) refl
-    where
-      at : (b : Bool) → isDone (d .ended) ≡ b → wellShaped p (r .session) ≡ true
-      at true q = x .shaped q
-      at false q = subst (λ (z : Session). wellShaped p z ≡ true) (sym (x .still q)) shaped
-
 -- ── all of them ──
 
 ends-so : (p : List ℕ) → verdict p ≡ 0 → (s : Session) → wellShaped p s ≡ true → (xs : List Step) (z : Session) → Runs p s xs z →
@@ -81,7 +52,7 @@ ends-so p ok s shaped (x ∷ xs) z (d, q) =
     let next : seen p (x .result .session) ≡ stepOf step (viewOf p) (seen p s) (offerOf x .event) (x .answers) .kept =
     d .session ∙ keeps-so p ok s shaped (x .event) (x .answers) (length (x .messages)) (length (x .calls)) in
     ap (λ (k : Kept). final step (viewOf p) k (map offerOf xs)) (sym next)
-    ∙ ends-so p ok (x .result .session) (stays-shaped p ok s shaped _ _ _ _ _ _ d) xs z q
+    ∙ ends-so p ok (x .result .session) (stays-shaped _ _ _ _ _ _ _ _ d shaped) xs z q
 
 pub demand-3-running : (p : List ℕ) → verdict p ≡ 0 → (xs : List Step) (z : Session) → Runs p freshSession xs z →
     Holds (viewOf p) (pasts step (viewOf p) freshKept (map offerOf xs)) (seen p z) (account (viewOf p) 0 (pasts step (viewOf p) freshKept (map offerOf xs)) blank)

@@ -2,13 +2,17 @@
 // for which there is no room here, ends the program there.
 //
 // The program is proved by what the bridge promises of an outcome's counts, and by how many saved records there can be: they have room in the text. A
-// number of the recording is held to the room that there is, and so is a session's count.
+// number of the recording is held to the room that there is. A session's count is not: a fresh session over an accepted profile is well shaped, and so is
+// what an event or a restore leaves of one.
 mod show;
 mod view;
 
+ghost use mathlib.Core.Bool.{true};
 ghost use mathlib.Core.Path.{_≡_};
 ghost use lib.ListN.{length};
 ghost use Rattle.io.specs.Counts.{Counts};
+ghost use Rattle.profile.specs.Profile.{verdict};
+ghost use Rattle.definition.specs.Shape.{wellShaped};
 use libc::STDIN_FILENO;
 use session::Session;
 
@@ -16,6 +20,16 @@ use session::Session;
 struct Got {
     there: bool,
     n: usize,
+}
+
+// A step's numbers, and how many bytes its event and its answers have, if the recording has all of it.
+struct Step {
+    there: bool,
+    kind: usize,
+    event: usize,
+    answers: usize,
+    room: usize,
+    space: usize,
 }
 
 // What one step came to, and whether the recording goes on.
@@ -57,6 +71,26 @@ fn part(room: &mut [u8]) -> Got
     }
 }
 
+// The next step: what it has of bytes comes to stand in both buffers.
+fn read_step(event: &mut [u8; 4096], answers: &mut [u8; 65536]) -> Step
+    ensures { λ r. ⌜ Counts (r .event) (now (event .exit)) ⌝ }
+    ensures { λ r. ⌜ Counts (r .answers) (now (answers .exit)) ⌝ }
+{
+    let kind = byte();
+    let e = part(event);
+    let a = part(answers);
+    let room = number();
+    let space = number();
+    Step {
+        there: kind.there & e.there & a.there & room.there & space.there,
+        kind: kind.n,
+        event: e.n,
+        answers: a.n,
+        room: room.n,
+        space: space.n,
+    }
+}
+
 // ── steps ──
 
 // The saved records, where the event saved.
@@ -77,7 +111,10 @@ fn one_event(
     answers: &[u8],
     room: usize,
     space: usize,
-) -> Session {
+) -> Session
+    requires { ⌜ wellShaped (now profile) s ≡ true ⌝ }
+    ensures { λ r. ⌜ wellShaped (now (profile .entry)) r ≡ true ⌝ }
+{
     let mut messages = [0u8; 306];
     let mut calls = [0u8; 5392];
     let m = printing::within(room, 306);
@@ -97,62 +134,65 @@ fn one_event(
     t
 }
 
-fn one_restore(n: usize, s: Session, profile: &[u8], saved: &[u8]) -> Session {
+fn one_restore(n: usize, s: Session, profile: &[u8], saved: &[u8]) -> Session
+    requires { ⌜ wellShaped (now profile) s ≡ true ⌝ }
+    ensures { λ r. ⌜ wellShaped (now (profile .entry)) r ≡ true ⌝ }
+{
     let r = state::restore(s, profile, saved);
     show::restored(n, r.why);
     r.session
 }
 
-fn came_to(s: Session, more: bool) -> Next {
-    Next {
-        session: s,
-        more: more,
-    }
-}
-
-// Reads and runs step n. A refused profile has its steps read and not run.
-fn one_step(dump: bool, n: usize, s: Session, profile: &[u8], accepted: bool) -> Next {
-    let mut record = io::buffer();
+// Reads and runs step n.
+fn one_step(dump: bool, n: usize, s: Session, profile: &[u8]) -> Next
+    requires { ⌜ wellShaped (now profile) s ≡ true ⌝ }
+    ensures { λ r. ⌜ wellShaped (now (profile .entry)) (r .session) ≡ true ⌝ }
+{
+    let mut event = io::buffer();
     let mut answers = io::large_buffer();
-    let kind = byte();
-    let r = part(&mut record);
-    let a = part(&mut answers);
-    let room = number();
-    let space = number();
-    if !(kind.there & r.there & a.there & room.there & space.there) {
-        return came_to(s, false);
+    let x = read_step(&mut event, &mut answers);
+    if !x.there {
+        return Next {
+            session: s,
+            more: false,
+        };
     }
-    if !accepted {
-        return came_to(s, true);
-    }
-    let event = r.n;
-    if kind.n == 1 {
-        let t = one_restore(n, s, profile, &record[..event]);
+    let size = x.event;
+    if x.kind == 1 {
+        let t = one_restore(n, s, profile, &event[..size]);
         view::show_session(dump, t, profile);
-        return came_to(t, true);
+        return Next {
+            session: t,
+            more: true,
+        };
     }
-    let end = a.n;
+    let end = x.answers;
     let t = one_event(
         n,
         s,
         profile,
-        &record[..event],
+        &event[..size],
         &answers[..end],
-        room.n,
-        space.n,
+        x.room,
+        x.space,
     );
     view::show_session(dump, t, profile);
-    came_to(t, true)
+    Next {
+        session: t,
+        more: true,
+    }
 }
 
 // ── cases ──
 
 // Runs `count` steps from a fresh session. Whether the recording goes on.
-fn all_steps(dump: bool, count: usize, profile: &[u8], accepted: bool) -> bool {
+fn all_steps(dump: bool, count: usize, profile: &[u8]) -> bool
+    requires { ⌜ verdict (now profile) ≡ 0 ⌝ }
+{
     let mut s = session::fresh();
     let mut n: usize = 0;
     while n < count {
-        let r = one_step(dump, n, s, profile, accepted);
+        let r = one_step(dump, n, s, profile);
         if !r.more {
             return false;
         }
@@ -162,11 +202,17 @@ fn all_steps(dump: bool, count: usize, profile: &[u8], accepted: bool) -> bool {
     true
 }
 
-fn accepts(profile: &[u8]) -> bool {
-    let why = profile::examine(profile);
-    if why != 0 {
-        printing::show_profile(why);
-        return false;
+// Reads the `count` steps of a refused profile, which are not run. Whether the recording goes on.
+fn pass_steps(count: usize) -> bool {
+    let mut event = io::buffer();
+    let mut answers = io::large_buffer();
+    let mut n: usize = 0;
+    while n < count {
+        let x = read_step(&mut event, &mut answers);
+        if !x.there {
+            return false;
+        }
+        n += 1;
     }
     true
 }
@@ -189,8 +235,12 @@ fn one_case(dump: bool) -> bool {
     }
     show::case(id.n);
     let end = p.n;
-    let accepted = accepts(&profile[..end]);
-    all_steps(dump, steps.n, &profile[..end], accepted)
+    let why = profile::examine(&profile[..end]);
+    if why != 0 {
+        printing::show_profile(why);
+        return pass_steps(steps.n);
+    }
+    all_steps(dump, steps.n, &profile[..end])
 }
 
 // A loop that is proved has to end, and nothing says that the input does: the turns are counted, from a number that no run uses up.

@@ -3,6 +3,7 @@ use borrow.Table.Elements.{length-take-le}
 use mathlib.Core.Path.{sym}
 use borrow.Author.Needs.{needs}
 use Rattle.bridge.specs.CountsLaws.{delivers-few}
+use Rattle.bridge.proofs.ShapedLaws.{stays-shaped}
 use Rattle.replay.proofs.one_event.Statement.{statement}
 use Rattle.replay.proofs.one_event.Tie as tie
 
@@ -34,7 +35,9 @@ show-saved-requires : tie.Need-show-saved-requires
 show-saved-requires c κs = search needs
 
 returns : tie.Need-returns
-returns c = search needs
+returns c =
+    let b = c .before .before .before .before .before .before .before in
+    stays-shaped _ _ _ _ _ _ _ _ (b .step .ensures) (b .before .before .before .before .before .before .before .before .pre)
 
 pub one-event-spec : {M : Type 1} → statement M
 one-event-spec =

@@ -96,7 +96,11 @@ abbrev pub Moves : List ℕ → Session → ℕ → Float → List ℕ → List 
 Moves p s ch value answers ms cs r ms₁ cs₁ =
     (now : Float) → Delivers (step (viewOf p) (seen p s) (movedAt now ch value) answers) p s ms cs r ms₁ cs₁
 
--- and an encoder, which asks and sends nothing
+-- one in control asks and sends nothing
+abbrev pub Glides : List ℕ → Session → ℕ → Float → declared.Stepped → Type 0
+Glides p s ch value r = (answers ms cs : List ℕ) → Moves p s ch value answers ms cs r ms cs
+
+-- and neither does an encoder
 abbrev pub Turns : List ℕ → Session → ℕ → ℤ → declared.Stepped → Type 0
 Turns p s ch delta r =
     (now : Float) (answers ms cs : List ℕ) → Delivers (step (viewOf p) (seen p s) (turnedAt now ch delta) answers) p s ms cs r ms cs

@@ -32,7 +32,7 @@ ghost use Rattle.profile.specs.Profile.{verdict, bankCount};
 ghost use Rattle.lookup.specs.Lookup.{rememberOf};
 ghost use Rattle.lookup.specs.View.{viewOf};
 ghost use Rattle.drivers.specs.Shown.{shown};
-ghost use Rattle.session.specs.Session.{lastMove, seenLine, seenTurns, isEncoder, hushedUpTo, targetsOf};
+ghost use Rattle.session.specs.Session.{isMarked, lastMove, seenLine, seenTurns, isEncoder, hushedUpTo, targetsOf};
 ghost use Rattle.session.specs.SessionLaws.{lowChannel};
 ghost use Rattle.definition.specs.Faders.{inRange, nudges, writes};
 ghost use Rattle.definition.specs.Shape.{shapedStrips, wellShaped};
@@ -44,7 +44,7 @@ ghost use Rattle.bridge.specs.Which.{pressIn, runs, bankBy, addsBy};
 ghost use Rattle.bridge.specs.Acts.{Leaves, RunsAny};
 ghost use Rattle.bounds.specs.Room.{LowInput};
 ghost use Rattle.delivery.specs.declared.Outcome.the-variants as outcome;
-ghost use Rattle.bridge.specs.Bridge.{Delivers, IsCurrent, isIdle, drainIf, Moves as MovesAs, Turns as TurnsAs, settingOf, Talks};
+ghost use Rattle.bridge.specs.Bridge.{Delivers, IsCurrent, isIdle, drainIf, Moves as MovesAs, Glides, Turns as TurnsAs, settingOf, Talks};
 
 // What became of an event, the session after it, and whether that is another than the one that was handed in.
 pub struct Stepped {
@@ -83,7 +83,30 @@ fn current_bank(live: Live, bank: u8) -> Current
 
 // ── a fader ──
 
-fn on_fader(
+// A fader in control asks nothing, so no scratch buffers are laid out.
+fn in_control(session: Session, profile: &[u8], channel: u8, value: f64) -> Stepped
+    requires { ⌜ verdict (now profile) ≡ 0 ⌝ }
+    requires { ⌜ wellShaped (now profile) session ≡ true ⌝ }
+    requires { ⌜ channel < 16 ⌝ }
+    requires { ⌜ isMarked (session .bank * 16 + channel) (session .marks) ≡ true ⌝ }
+    ensures { λ r. ⌜ Glides (now (profile .entry)) session channel value r ⌝ }
+{
+    let live = session.live;
+    let here = current_bank(live, session.bank);
+    let k = (session.bank as usize) * 16 + (channel as usize);
+    let verdict = hands::faders::in_control(profile, here, channel);
+    let opened = session.opened;
+    let t = after::faded(session, verdict, k, channel, value, opened);
+    let o = nothing();
+    Stepped {
+        outcome: o,
+        session: t,
+        changed: true,
+    }
+}
+
+// Any other asks its device where it stands, and takes over or is held.
+fn take_over(
     session: Session,
     profile: &[u8],
     channel: u8,
@@ -97,23 +120,12 @@ fn on_fader(
     requires { ⌜ 306 ≤ length (now messages) ⌝ }
     requires { ⌜ 5392 ≤ length (now calls) ⌝ }
     requires { ⌜ channel < 16 ⌝ }
+    requires { ⌜ isMarked (session .bank * 16 + channel) (session .marks) ≡ false ⌝ }
     ensures { λ r. ⌜ MovesAs (now (profile .entry)) session channel value (now (answers .entry)) (now (messages .entry)) (now (calls .entry)) r (now (messages .exit)) (now (calls .exit)) ⌝ }
 {
     let live = session.live;
     let here = current_bank(live, session.bank);
     let k = (session.bank as usize) * 16 + (channel as usize);
-    if session::is_marked(session.marks, k) {
-        // in control: nothing is asked, so no scratch buffers are laid out
-        let verdict = hands::faders::in_control(profile, here, channel);
-        let opened = session.opened;
-        let t = after::faded(session, verdict, k, channel, value, opened);
-        let o = nothing();
-        return Stepped {
-            outcome: o,
-            session: t,
-            changed: true,
-        };
-    }
     let last = session::last_move(session.moves, k);
     let mut cs = [0u8; 5392];
     let mut ms = [0u8; 306];
@@ -148,6 +160,29 @@ fn on_fader(
         session: t,
         changed: true,
     }
+}
+
+fn on_fader(
+    session: Session,
+    profile: &[u8],
+    channel: u8,
+    value: f64,
+    answers: &[u8],
+    messages: &mut [u8],
+    calls: &mut [u8],
+) -> Stepped
+    requires { ⌜ verdict (now profile) ≡ 0 ⌝ }
+    requires { ⌜ wellShaped (now profile) session ≡ true ⌝ }
+    requires { ⌜ 306 ≤ length (now messages) ⌝ }
+    requires { ⌜ 5392 ≤ length (now calls) ⌝ }
+    requires { ⌜ channel < 16 ⌝ }
+    ensures { λ r. ⌜ MovesAs (now (profile .entry)) session channel value (now (answers .entry)) (now (messages .entry)) (now (calls .entry)) r (now (messages .exit)) (now (calls .exit)) ⌝ }
+{
+    let k = (session.bank as usize) * 16 + (channel as usize);
+    if session::is_marked(session.marks, k) {
+        return in_control(session, profile, channel, value);
+    }
+    take_over(session, profile, channel, value, answers, messages, calls)
 }
 
 // ── an encoder ──

@@ -1,36 +1,11 @@
 -- `bridge::on_fader` meets its contract. Assumes nothing.
 use Prim.Native.Nat.{_+_, _*_, _<_}
 use native.Mathlib.Omega.{arith}
-use mathlib.Core.Path.{_≡_, refl, sym, subst, _∙_}
-use mathlib.Core.List.{List}
-use mathlib.Core.Bool.{Bool}
-use lib.ListN.{length}
-use borrow.Author.Tests.{not-true, not-false}
-use Rattle.base.specs.KeyedLaws.{long}
-use Rattle.drivers.specs.Shown.{shown}
-use Rattle.session.specs.SessionLaws.{line-room}
-use Rattle.after.specs.After.{Fades}
-use Rattle.bridge.proofs.Fit.{bank-low, line-is, line-few, live-is}
-use Rattle.bridge.proofs.HandLaws.{Ran, asked, move-room, unmoved, moved, in-control}
+use mathlib.Core.Path.{sym, _∙_}
+use Rattle.bridge.proofs.Fit.{bank-low}
 use borrow.Author.Needs.{needs}
 use Rattle.bridge.proofs.on_fader.Statement.{statement}
 use Rattle.bridge.proofs.on_fader.Tie as tie
-
--- the place of (bank, channel) among the last moves and the marks
-key : (c : tie.Start) → c .args .session .bank * 16 + c .args .channel < 256
-key c = omega (arith, bank-low (c .args .profile .now) (c .args .session) (c .pre .1 .0) (c .pre .0), c .pre .1 .1 .1 .1)
-
-opened-long : (c : tie.Start) → length (c .args .session .opened) ≡ 16
-opened-long c = search (long, c .good .0 .1 .1 .1 .1 .1 .1 .1 .1 .1 .1 .1)
-
--- where the mark was asked for, the event's start
-abbrev begun : tie.After-is-marked → tie.Start
-begun m = m .before .before .before .before .before .before .before .before
-
-current-bank-requires : tie.Need-current-bank-requires
-current-bank-requires c κs =
-    let b = c .before .before .before .before .before in
-    (bank-low (b .args .profile .now) (b .args .session) (b .pre .1 .0) (b .pre .0), live-is (b .args .profile .now) (b .args .session) (b .pre .1 .0))
 
 cast-k : tie.Need-cast-k
 cast-k c = search needs
@@ -42,73 +17,23 @@ add-k : tie.Need-add-k
 add-k c = search needs
 
 is-marked-requires : tie.Need-is-marked-requires
-is-marked-requires c κs = key (c .before .before .before .before .before .before .before)
+is-marked-requires c κs =
+    let b = c .before .before .before .before .before in
+    omega (arith, bank-low (b .args .profile .now) (b .args .session) (b .pre .1 .0) (b .pre .0), b .pre .1 .1 .1 .1)
 
 in-control-requires : tie.Need-in-control-requires
-in-control-requires c κs = search needs
-
-faded-requires : tie.Need-faded-requires
-faded-requires c κs =
-    let b = begun (c .before .before .before) in
-    let p = b .args .profile .now in
-    let s = b .args .session in
-    (key b, (line-few p s (b .pre .1 .0), line-room _ (b .args .channel) (line-is p s (b .pre .1 .0)) (b .pre .1 .1 .1 .1)))
-
-nothing-requires : tie.Need-nothing-requires
-nothing-requires c κs = search needs
+in-control-requires c κs =
+    let b = c .before .before .before .before .before .before .before in
+    (b .pre .0, (b .pre .1 .0, (b .pre .1 .1 .1 .1, sym (c .before .is-marked .ensures) ∙ c .if1 .taken)))
 
 returns : tie.Need-returns
-returns c =
-    let m = c .before .before .before .before .before in
-    let k = m .before .before in
-    let b = begun m in
-    in-control (b .args .profile .now) (b .args .session) (b .args .channel) (b .args .value) (b .args .answers .now) (k .current-bank .result) (k .current-bank .ensures)
-    (c .before .before .before .in-control .result) (c .before .before .before .in-control .ensures) (sym (m .is-marked .ensures) ∙ c .before .before .before .before .if1 .taken)
-    (b .pre .0) (b .pre .1 .0) (opened-long b) (b .pre .1 .1 .1 .1) (c .nothing .result) (c .nothing .ensures) (c .before .faded .result) (c .before .faded .ensures .0)
-    (c .before .faded .ensures .1) _ _
+returns c = c .in-control .ensures _ _ _
 
-last-move-requires : tie.Need-last-move-requires
-last-move-requires c κs = key (begun (c .before))
-
-fresh-requires : tie.Need-fresh-requires
-fresh-requires c κs = search needs
-
-fader-requires : tie.Need-fader-requires
-fader-requires c κs =
-    let m = c .before .before .before .before .before .before in
-    (m .before .before .current-bank .ensures .few, begun m .pre .1 .1 .1 .1)
-
--- where the mark was asked for, of a move that was run
-abbrev asked-at : tie.After-fader → tie.After-is-marked
-asked-at f = f .before .before .before .before .before .before .before
-
--- what the move left is the definition's
-ran : (f : tie.After-fader) →
-    let m = asked-at f in
-    let b = begun m in
-    Ran (b .args .profile .now) (b .args .session) (b .args .channel) (b .args .value) (b .args .answers .now) (m .before .before .current-bank .result)
-    (f .fader .result .verdict) (shown (b .args .answers .now) (f .fader .result .io) (f .fader .last .1 .0) (f .fader .last .1 .1 .0))
-ran f =
-    let m = asked-at f in
-    let b = begun m in
-    let l = f .before .before .before .before .before in
-    asked (b .args .profile .now) (b .args .session) (b .args .channel) (b .args .value) (b .args .answers .now) (m .before .before .current-bank .result)
-    (f .fader .result .verdict) (l .last-move .result) _ _ (f .before .before .before .fresh .ensures (b .args .answers .now) _ _) (f .fader .ensures)
-    (sym (m .is-marked .ensures) ∙ l .before .if1 .left) (l .last-move .ensures)
-
-ending-requires : tie.Need-ending-requires
-ending-requires c κs =
-    let f = c .before .before .before .before .before in
-    let m = asked-at f in
-    let b = begun m in (
-      b .pre .1 .1 .0,
-      (
-        b .pre .1 .1 .1 .0,
-        move-room (b .args .profile .now) (b .args .session) (b .args .channel) (b .args .value) (b .args .answers .now) (m .before .before .current-bank .result)
-            (m .before .before .current-bank .ensures) (f .fader .result .verdict) _ (ran f) (b .pre .0) (b .pre .1 .0) (opened-long b) (b .pre .1 .1 .1 .1)
-            (f .fader .result .io) _ _ refl,
-      ),
-    )
+take-over-requires : tie.Need-take-over-requires
+take-over-requires c κs =
+    let b = c .before .before .before .before .before .before .before .before .before in
+    let i = c .before .before in
+    (b .pre .0, (b .pre .1 .0, (b .pre .1 .1 .0, (b .pre .1 .1 .1 .0, (b .pre .1 .1 .1 .1, sym (i .before .is-marked .ensures) ∙ i .if1 .left)))))
 
 same-length : tie.Need-same-length
 same-length c = search needs
@@ -117,67 +42,7 @@ same-length-2 : tie.Need-same-length-2
 same-length-2 c = search needs
 
 returns-2 : tie.Need-returns-2
-returns-2 c =
-    let e = c .before .before .before .before .before .before in
-    let f = e .before .before .before .before .before .before in
-    let m = asked-at f in
-    let b = begun m in
-    let h = e .ending .ensures in
-    unmoved (b .args .profile .now) (b .args .session) (b .args .channel) (b .args .value) (b .args .answers .now) (m .before .before .current-bank .result)
-    (m .before .before .current-bank .ensures) (f .fader .result .verdict) _ (ran f) (b .pre .0) (b .pre .1 .0) (opened-long b) (b .pre .1 .1 .1 .1)
-    (e .ending .result .outcome) _ _ _ _ (h .outcome (b .args .answers .now)) (h .messages (b .args .answers .now)) (h .calls (b .args .answers .now))
-    (sym (h .done (b .args .answers .now)) ∙ not-true (e .ending .result .done) (c .if2 .taken))
-
-faded-requires-2 : tie.Need-faded-requires-2
-faded-requires-2 c κs =
-    let b = begun (asked-at (c .before .before .before .before .before .before .before .before .before .before .before .before .before)) in
-    let p = b .args .profile .now in
-    let s = b .args .session in
-    (key b, (line-few p s (b .pre .1 .0), line-room _ (b .args .channel) (line-is p s (b .pre .1 .0)) (b .pre .1 .1 .1 .1)))
-
-same-length-3 : tie.Need-same-length-3
-same-length-3 c = search needs
-
-same-length-4 : tie.Need-same-length-4
-same-length-4 c = search needs
-
-returns-3 : tie.Need-returns-3
-unfolding shown
-returns-3 c =
-    let i = c .before .before in
-    let e = i .before .before .before .before .before .before in
-    let f = e .before .before .before .before .before .before in
-    let m = asked-at f in
-    let b = begun m in
-    let h = e .ending .ensures in
-    moved (b .args .profile .now) (b .args .session) (b .args .channel) (b .args .value) (b .args .answers .now) (m .before .before .current-bank .result)
-    (m .before .before .current-bank .ensures) (f .fader .result .verdict) _ (ran f) (b .pre .0) (b .pre .1 .0) (opened-long b) (b .pre .1 .1 .1 .1)
-    (e .ending .result .outcome) _ _ _ _ (h .outcome (b .args .answers .now)) (h .messages (b .args .answers .now)) (h .calls (b .args .answers .now))
-    (sym (h .done (b .args .answers .now)) ∙ not-false (e .ending .result .done) (i .if2 .left)) (c .faded2 .result)
-    (subst (λ (o : List Bool). Fades (b .args .session) (f .fader .result .verdict) (b .args .session .bank * 16 + b .args .channel) (b .args .channel) (b .args .value) o (c .faded2 .result)) (h .opened) (c .faded2 .ensures .0))
-    (c .faded2 .ensures .1)
+returns-2 c = c .before .before .before .before .take-over .ensures
 
 pub on-fader-spec : {M : Type 1} → statement M
-on-fader-spec =
-    tie.close
-    (tie.spec
-    current-bank-requires
-    cast-k
-    mul-k
-    add-k
-    is-marked-requires
-    in-control-requires
-    faded-requires
-    nothing-requires
-    returns
-    last-move-requires
-    fresh-requires
-    fader-requires
-    ending-requires
-    same-length
-    same-length-2
-    returns-2
-    faded-requires-2
-    same-length-3
-    same-length-4
-    returns-3)
+on-fader-spec = tie.close (tie.spec cast-k mul-k add-k is-marked-requires in-control-requires returns take-over-requires same-length same-length-2 returns-2)

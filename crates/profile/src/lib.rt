@@ -25,11 +25,9 @@ pub fn examine(profile: &[u8]) -> u8
     if !fields::fields_ok(profile) {
         return 2;
     }
-    if !order::order_ok(profile) {
-        return 3;
-    }
-    if view::count_kind(profile, 1) == 0 {
-        return 4;
+    let order = order::cause(profile);
+    if order != 0 {
+        return order;
     }
     if !limits::limits_ok(profile) {
         return 5;

@@ -1,44 +1,58 @@
-// Number 3: kinds, banks and numbers stand in the order that the lookups count on.
+// Number 3: kinds, banks and numbers stand in the order that the lookups count on. Number 4: there is a bank.
 ghost use mathlib.Core.Path.{_≡_};
-ghost use mathlib.Core.Bool.{true, not};
+ghost use mathlib.Core.Bool.{true, _&&_, _||_, cond};
 ghost use Prim.Native.Nat.{_<_, _≤_};
+ghost use lib.Dec.{ltb, eqb};
 ghost use Rattle.base.specs.Range.{count, all};
-ghost use Rattle.profile.specs.Profile.{records, isKind, bankCount, kindBefore, orderedAt, control, onceEach, fieldsOk, orderOk};
+ghost use Rattle.profile.specs.Profile.{records, byteAt, isKind, kindCount, bankCount, kindBefore, rises, runs, orderedAt, control, onceEach, fieldsOk, orderOk, banksOk};
 ghost use Rattle.profile.specs.Order.{slotAt};
 use crate::view::byte;
-use crate::view::count_kind;
 use crate::view::one;
 use crate::view::wide;
 
-// Record k stands where it may, behind a record of kind `last` and `before` banks, in a file of `banks` banks.
-fn ordered_at(s: &[u8], k: usize, last: u8, before: usize, banks: usize) -> bool
-    requires { ⌜ (k < records (now s)) × (last ≡ kindBefore (now s) k) × (before ≡ count k (isKind (now s) 1)) × (banks ≡ bankCount (now s)) ⌝ }
-    ensures { λ r. ⌜ r ≡ orderedAt (now (s .entry)) k ⌝ }
+// Whether the order is right, and if it is, how many banks there are.
+struct Order {
+    ok: bool,
+    banks: usize,
+}
+
+// Record k stands where it may, behind a record of kind `last` and `before` banks. Every bank that it may name stands before it, since kinds never fall.
+fn ordered_at(s: &[u8], k: usize, last: u8, before: usize) -> bool
+    requires { ⌜ (k < records (now s)) × (last ≡ kindBefore (now s) k) × (before ≡ count k (isKind (now s) 1)) ⌝ }
+    ensures { λ r. ⌜ r ≡ (rises (now (s .entry)) k && (runs (now (s .entry)) k && ((ltb (byteAt (now (s .entry)) k 0) 2 || ltb 5 (byteAt (now (s .entry)) k 0)) || (eqb (byteAt (now (s .entry)) k 1) 255 || ltb (byteAt (now (s .entry)) k 1) (count k (isKind (now (s .entry)) 1)))))) ⌝ }
 {
     let kind = byte(s, k, 0);
     let bank = wide(byte(s, k, 1));
     (last <= kind)
         & ((!(kind == 1) | (bank == before))
-            & (((kind < 2) | (5 < kind)) | ((bank == 255) | (bank < banks))))
+            & (((kind < 2) | (5 < kind)) | ((bank == 255) | (bank < before))))
 }
 
-fn ordered(s: &[u8]) -> bool
-    ensures { λ r. ⌜ r ≡ all (records (now (s .entry))) (orderedAt (now (s .entry))) ⌝ }
+// The settings are there once, and every record stands where it may.
+fn ordered(s: &[u8]) -> Order
+    ensures { λ r. ⌜ (r .ok ≡ (eqb (kindCount (now (s .entry)) 0) 1 && all (records (now (s .entry))) (orderedAt (now (s .entry))))) × (r .ok ≡ true → r .banks ≡ bankCount (now (s .entry))) ⌝ }
 {
-    let banks = count_kind(s, 1);
     let n = s.len() / 32;
     let mut last: u8 = 0;
-    let mut before: usize = 0;
+    let mut settings: usize = 0;
+    let mut banks: usize = 0;
     let mut k = 0;
     while k < n {
-        if !ordered_at(s, k, last, before, banks) {
-            return false;
+        if !ordered_at(s, k, last, banks) {
+            return Order {
+                ok: false,
+                banks: 0,
+            };
         }
         last = byte(s, k, 0);
-        before += one(last == 1);
+        settings += one(last == 0);
+        banks += one(last == 1);
         k += 1;
     }
-    true
+    Order {
+        ok: settings == 1,
+        banks: banks,
+    }
 }
 
 pub fn is_control(kind: u8) -> bool
@@ -79,9 +93,20 @@ fn once_each(s: &[u8]) -> bool
     true
 }
 
-pub fn order_ok(s: &[u8]) -> bool
+// 3 or 4, if that is a cause to decline the profile, or 0.
+pub fn cause(s: &[u8]) -> u8
     requires { ⌜ fieldsOk (now s) ≡ true ⌝ }
-    ensures { λ r. ⌜ r ≡ orderOk (now (s .entry)) ⌝ }
+    ensures { λ r. ⌜ r ≡ cond (orderOk (now (s .entry))) (cond (banksOk (now (s .entry))) 0 4) 3 ⌝ }
 {
-    (count_kind(s, 0) == 1) & (ordered(s) & once_each(s))
+    let found = ordered(s);
+    if !found.ok {
+        return 3;
+    }
+    if !once_each(s) {
+        return 3;
+    }
+    if found.banks == 0 {
+        return 4;
+    }
+    0
 }

@@ -1,58 +1,64 @@
 // Number 3: kinds, banks and numbers stand in the order that the lookups count on. Number 4: there is a bank.
 ghost use mathlib.Core.Path.{_≡_};
 ghost use mathlib.Core.Bool.{true, _&&_, _||_, cond};
-ghost use Prim.Native.Nat.{_<_, _≤_};
-ghost use lib.Dec.{ltb, eqb};
-ghost use Rattle.base.specs.Range.{count, all};
-ghost use Rattle.profile.specs.Profile.{records, byteAt, isKind, kindCount, bankCount, kindBefore, rises, runs, orderedAt, control, onceEach, fieldsOk, orderOk, banksOk};
+ghost use Prim.Native.Nat.{_+_, _<_};
+ghost use lib.Dec.{ltb, leb, eqb};
+ghost use Rattle.base.specs.Range.{all};
+ghost use Rattle.profile.specs.Profile.{records, byteAt, kindCount, bankCount, orderedAt, control, onceEach, fieldsOk, orderOk, banksOk};
 ghost use Rattle.profile.specs.Order.{slotAt};
 use crate::view::byte;
-use crate::view::one;
 use crate::view::wide;
 
-// Whether the order is right, and if it is, how many banks there are.
-struct Order {
-    ok: bool,
-    banks: usize,
-}
-
-// Record k stands where it may, behind a record of kind `last` and `before` banks. Every bank that it may name stands before it, since kinds never fall.
-fn ordered_at(s: &[u8], k: usize, last: u8, before: usize) -> bool
-    requires { ⌜ (k < records (now s)) × (last ≡ kindBefore (now s) k) × (before ≡ count k (isKind (now s) 1)) ⌝ }
-    ensures { λ r. ⌜ r ≡ (rises (now (s .entry)) k && (runs (now (s .entry)) k && ((ltb (byteAt (now (s .entry)) k 0) 2 || ltb 5 (byteAt (now (s .entry)) k 0)) || (eqb (byteAt (now (s .entry)) k 1) 255 || ltb (byteAt (now (s .entry)) k 1) (count k (isKind (now (s .entry)) 1)))))) ⌝ }
+// Record k, of kind 0 or 1, stands where it may: first the settings, then the banks from 0 on.
+fn leads(s: &[u8], k: usize) -> bool
+    requires { ⌜ k < records (now s) ⌝ }
+    ensures { λ r. ⌜ r ≡ ((eqb k 0 && eqb (byteAt (now (s .entry)) k 0) 0) || (eqb (byteAt (now (s .entry)) k 0) 1 && eqb (byteAt (now (s .entry)) k 1 + 1) k)) ⌝ }
 {
     let kind = byte(s, k, 0);
     let bank = wide(byte(s, k, 1));
-    (last <= kind)
-        & ((!(kind == 1) | (bank == before))
-            & (((kind < 2) | (5 < kind)) | ((bank == 255) | (bank < before))))
+    ((k == 0) & (kind == 0)) | ((kind == 1) & (bank + 1 == k))
 }
 
-// The settings are there once, and every record stands where it may.
-fn ordered(s: &[u8]) -> Order
-    ensures { λ r. ⌜ (r .ok ≡ (eqb (kindCount (now (s .entry)) 0) 1 && all (records (now (s .entry))) (orderedAt (now (s .entry))))) × (r .ok ≡ true → r .banks ≡ bankCount (now (s .entry))) ⌝ }
+// Record k, behind all banks and a record of kind `last`, stands where it may, and the bank that it names is there.
+fn follows(s: &[u8], k: usize, last: u8, banks: usize) -> bool
+    requires { ⌜ k < records (now s) ⌝ }
+    ensures { λ r. ⌜ r ≡ (leb last (byteAt (now (s .entry)) k 0) && (ltb 5 (byteAt (now (s .entry)) k 0) || (eqb (byteAt (now (s .entry)) k 1) 255 || ltb (byteAt (now (s .entry)) k 1) banks))) ⌝ }
+{
+    let kind = byte(s, k, 0);
+    let bank = wide(byte(s, k, 1));
+    (last <= kind) & ((5 < kind) | ((bank == 255) | (bank < banks)))
+}
+
+// One more than the number of banks, if the settings are there once and every record stands where it may, else 0: where the records behind the banks start.
+// As kinds never fall, the settings and the banks come first and are counted by where they end, and what comes behind them needs no count.
+fn ordered(s: &[u8]) -> usize
+    ensures { λ r. ⌜ r ≡ cond (eqb (kindCount (now (s .entry)) 0) 1 && all (records (now (s .entry))) (orderedAt (now (s .entry)))) (bankCount (now (s .entry)) + 1) 0 ⌝ }
 {
     let n = s.len() / 32;
-    let mut last: u8 = 0;
-    let mut settings: usize = 0;
-    let mut banks: usize = 0;
     let mut k = 0;
     while k < n {
-        if !ordered_at(s, k, last, banks) {
-            return Order {
-                ok: false,
-                banks: 0,
-            };
+        if 1 < byte(s, k, 0) {
+            break;
         }
-        last = byte(s, k, 0);
-        settings += one(last == 0);
-        banks += one(last == 1);
+        if !leads(s, k) {
+            return 0;
+        }
         k += 1;
     }
-    Order {
-        ok: settings == 1,
-        banks: banks,
+    if k == 0 {
+        return 0;
     }
+    let from = k;
+    // The record at `from`, if there is one, was found to be of kind 2 or more.
+    let mut last: u8 = 2;
+    while k < n {
+        if !follows(s, k, last, from - 1) {
+            return 0;
+        }
+        last = byte(s, k, 0);
+        k += 1;
+    }
+    from
 }
 
 pub fn is_control(kind: u8) -> bool
@@ -99,13 +105,13 @@ pub fn cause(s: &[u8]) -> u8
     ensures { λ r. ⌜ r ≡ cond (orderOk (now (s .entry))) (cond (banksOk (now (s .entry))) 0 4) 3 ⌝ }
 {
     let found = ordered(s);
-    if !found.ok {
+    if found == 0 {
         return 3;
     }
     if !once_each(s) {
         return 3;
     }
-    if found.banks == 0 {
+    if found == 1 {
         return 4;
     }
     0

@@ -1,0 +1,22 @@
+-- `profile::order::leads` meets its contract. Assumes nothing.
+use borrow.Author.Needs.{needs}
+use Rattle.profile.proofs.order.leads.Statement.{statement}
+use Rattle.profile.proofs.order.leads.Tie as tie
+
+byte-requires : tie.Need-byte-requires
+byte-requires c κs = search needs
+
+byte-requires-2 : tie.Need-byte-requires-2
+byte-requires-2 c κs = search needs
+
+wide-requires : tie.Need-wide-requires
+wide-requires c κs = search needs
+
+add-result : tie.Need-add-result
+add-result c = search needs
+
+returns : tie.Need-returns
+returns c = rw (← c .before .before .byte .ensures, ← c .before .byte2 .ensures, ← c .wide .ensures .0)
+
+pub leads-spec : {M : Type 1} → statement M
+leads-spec = tie.close (tie.spec byte-requires byte-requires-2 wide-requires add-result returns)

@@ -1,2 +1,3 @@
 pub mod Lowest
 pub mod Ordered
+pub mod Behind

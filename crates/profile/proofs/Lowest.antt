@@ -55,5 +55,13 @@ module _ (s : List ℕ) (a b e f : Bool) (n : ℕ) where
 pub passed : (a b : Bool) → a ≡ b → not a ≡ false → b ≡ true
 passed a b p x = rw (← p) (not-false a x)
 
+-- number 3 is passed where `cause` finds none
+order-passed : (d e : Bool) (n : ℕ) → n ≡ cond d (cond e 0 4) 3 → n ≡ 0 → d ≡ true
+order-passed true e n r z = refl
+order-passed false e n r z = absurd (omega arith)
+
+pub in-order : (s : List ℕ) (n : ℕ) → n ≡ causeOf s → n ≡ 0 → orderOk s ≡ true
+in-order s n r z = order-passed (orderOk s) (banksOk s) n r z
+
 pub short : (s : List ℕ) (a : Bool) → a ≡ sizeOk s → not a ≡ false → length s ≤ 65536
 short s a p x = leb-true (length s) 65536 (every-at _ 1 (passed a (sizeOk s) p x))

@@ -63,7 +63,7 @@ past false b d h = h refl
 
 module _ (s : List ℕ) where
   module _ (ok : all (records s) (orderedAt s) ≡ true) where
-    kinds-rise : (j k : ℕ) → j ≤ k → k < records s → byteAt s j 0 ≤ byteAt s k 0
+    pub kinds-rise : (j k : ℕ) → j ≤ k → k < records s → byteAt s j 0 ≤ byteAt s k 0
     unfolding orderedAt
     kinds-rise j zero h l = rw (le-antisymm h (omega arith)) (omega arith)
     kinds-rise j (suc k) h l =
@@ -271,6 +271,9 @@ module _ (s : List ℕ) where
   module _ (m : ℕ) (p : m ≡ cond rightOrder (bankCount s + 1) 0) where
     pub by-order : m ≡ 0 → 3 ≡ causeOf s
     by-order x = rw (order-is, found-none rightOrder (bankCount s) (sym x ∙ p))
+
+    pub by-found : (m ≡ 0 → ⊥) → all (records s) (orderedAt s) ≡ true
+    by-found x = and-right (eqb (kindCount s 0) 1) _ (found-some rightOrder m (bankCount s) p x .0)
 
     module _ (b : Bool) (x : m ≡ 0 → ⊥) (q : b ≡ onceEach s) where
       pub by-once : not b ≡ true → 3 ≡ causeOf s

@@ -78,8 +78,9 @@ fn slot(s: &[u8], k: usize) -> usize
     kind % 2 * 512 + (bank % 32 * 16 + number % 16)
 }
 
+// As kinds never fall, the first record of kind 4 or more ends the faders and encoders.
 fn once_each(s: &[u8]) -> bool
-    requires { ⌜ fieldsOk (now s) ≡ true ⌝ }
+    requires { ⌜ (fieldsOk (now s) ≡ true) × (all (records (now s)) (orderedAt (now s)) ≡ true) ⌝ }
     ensures { λ r. ⌜ r ≡ onceEach (now (s .entry)) ⌝ }
 {
     let n = s.len() / 32;
@@ -88,7 +89,11 @@ fn once_each(s: &[u8]) -> bool
     while k < n {
         let i = k;
         k += 1;
-        if is_control(byte(s, i, 0)) {
+        let kind = byte(s, i, 0);
+        if 3 < kind {
+            return true;
+        }
+        if is_control(kind) {
             let at = slot(s, i);
             if seen[at] != 0 {
                 return false;

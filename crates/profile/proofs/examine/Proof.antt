@@ -1,5 +1,5 @@
 -- `profile::examine` meets its contract. Assumes nothing.
-use Rattle.profile.proofs.Lowest.{by-length, by-field, by-cause, by-limits, by-ends, by-none, passed, short}
+use Rattle.profile.proofs.Lowest.{by-length, by-field, by-cause, by-limits, by-ends, by-none, passed, in-order, short}
 use borrow.Author.Needs.{needs}
 use Rattle.profile.proofs.examine.Statement.{statement}
 use Rattle.profile.proofs.examine.Tie as tie
@@ -32,7 +32,7 @@ returns-4 : tie.Need-returns-4
 returns-4 c = search by-limits
 
 finite-ok-requires : tie.Need-finite-ok-requires
-finite-ok-requires c κs = search needs
+finite-ok-requires c κs = in-order _ _ (c .before .before .before .cause .ensures) (c .before .before .if3 .left)
 
 returns-5 : tie.Need-returns-5
 returns-5 c = search by-ends

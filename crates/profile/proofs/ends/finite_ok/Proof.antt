@@ -4,10 +4,11 @@ use mathlib.Core.Path.{_≡_, sym, _∙_}
 use mathlib.Core.Bool.{true}
 use native.Mathlib.Omega.{arith}
 use borrow.Author.Tests.{not-true, not-false}
-use borrow.Author.Needs.{needs}
 use Rattle.base.specs.Range.{all}
 use Rattle.base.specs.RangeLaws.{all-none, all-more, all-done, all-stop}
 use Rattle.profile.specs.Profile.{endsFinite, finiteOk}
+use Rattle.profile.proofs.Behind.{finite-past, all-ordered}
+use borrow.Author.Needs.{needs}
 use Rattle.profile.proofs.ends.finite_ok.Statement.{statement}
 use Rattle.profile.proofs.ends.finite_ok.Tie as tie
 
@@ -20,12 +21,19 @@ abbrev μ-loop : tie.MeasureT-loop
 loop-holds : tie.Need-loop-holds Inv-loop μ-loop
 loop-holds c = (search needs, all-none _)
 
+byte-requires : tie.Need-byte-requires Inv-loop μ-loop
+byte-requires c κs = search needs
+
+returns : tie.Need-returns Inv-loop μ-loop
+returns c = let at = c .before .before .before in
+    finite-past _ (at .loop .k) (all-ordered _ (at .before .before .pre)) (omega arith) (omega (arith, c .before .byte .ensures)) (at .loop .inv .1)
+
 ends-finite-requires : tie.Need-ends-finite-requires Inv-loop μ-loop
 ends-finite-requires c κs = search needs
 
-returns : tie.Need-returns Inv-loop μ-loop
+returns-2 : tie.Need-returns-2 Inv-loop μ-loop
 unfolding finiteOk
-returns c = all-stop _ _ _ (omega arith) (sym (c .before .ends-finite .ensures) ∙ not-true _ (c .if1 .taken))
+returns-2 c = all-stop _ _ _ (omega arith) (sym (c .before .ends-finite .ensures) ∙ not-true _ (c .if2 .taken))
 
 add-k : tie.Need-add-k Inv-loop μ-loop
 add-k c = search needs
@@ -34,11 +42,11 @@ loop-less : tie.Need-loop-less Inv-loop μ-loop
 loop-less c = search needs
 
 loop-again : tie.Need-loop-again Inv-loop μ-loop
-loop-again c = (search needs, all-more _ _ (c .before .before .before .loop .inv .1) (sym (c .before .ends-finite .ensures) ∙ not-false _ (c .if1 .left)))
+loop-again c = (search needs, all-more _ _ (c .before .before .before .before .before .loop .inv .1) (sym (c .before .ends-finite .ensures) ∙ not-false _ (c .if2 .left)))
 
-returns-2 : tie.Need-returns-2 Inv-loop μ-loop
+returns-3 : tie.Need-returns-3 Inv-loop μ-loop
 unfolding finiteOk
-returns-2 c = all-done _ _ _ (omega arith) (omega arith) (c .before .loop .inv .1)
+returns-3 c = all-done _ _ _ (omega arith) (omega arith) (c .before .loop .inv .1)
 
 pub finite-ok-spec : {M : Type 1} → statement M
 finite-ok-spec =
@@ -47,9 +55,11 @@ finite-ok-spec =
     Inv-loop
     μ-loop
     loop-holds
-    ends-finite-requires
+    byte-requires
     returns
+    ends-finite-requires
+    returns-2
     add-k
     loop-less
     loop-again
-    returns-2)
+    returns-3)

@@ -1,5 +1,5 @@
 -- `profile::order::cause` meets its contract. Assumes nothing.
-use Rattle.profile.proofs.Ordered.{by-order, by-once, by-bank, by-neither}
+use Rattle.profile.proofs.Ordered.{by-order, by-found, by-once, by-bank, by-neither}
 use borrow.Author.Needs.{needs}
 use Rattle.profile.proofs.order.cause.Statement.{statement}
 use Rattle.profile.proofs.order.cause.Tie as tie
@@ -11,7 +11,7 @@ returns : tie.Need-returns
 returns c = search by-order
 
 once-each-requires : tie.Need-once-each-requires
-once-each-requires c κs = search needs
+once-each-requires c κs = (c .before .before .before .pre, by-found _ _ (c .before .ordered .ensures) (c .if1 .left))
 
 returns-2 : tie.Need-returns-2
 returns-2 c = search by-once

@@ -1,3 +1,4 @@
 pub mod Lowest
 pub mod Ordered
 pub mod Behind
+pub mod Finite

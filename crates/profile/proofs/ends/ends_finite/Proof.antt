@@ -3,11 +3,10 @@ use Prim.Native.Nat.{ℕ}
 use mathlib.Core.Path.{_≡_}
 use mathlib.Core.List.{List}
 use mathlib.Core.Bool.{Bool, true, false, _&&_, not}
-use lib.Ieee.{Float}
 use lib.Ieee.Scale.{finite}
 use borrow.Author.Tests.{not-true, not-false}
-use borrow.Author.Needs.{needs}
 use Rattle.profile.specs.Profile.{byteAt, doubleAt, control, endsFinite}
+use borrow.Author.Needs.{needs}
 use Rattle.profile.proofs.ends.ends_finite.Statement.{statement}
 use Rattle.profile.proofs.ends.ends_finite.Tie as tie
 
@@ -17,10 +16,10 @@ unfolding endsFinite
 other s k x a e f h = rw (← e, ← f, not-true a h)
 
 -- a range, and what was found of its two ends
-ends : (s : List ℕ) (k x : ℕ) (a b d : Bool) (y z : Float) → x ≡ byteAt s k 0 → a ≡ control x → not a ≡ false →
-    y ≡ doubleAt s k 16 → b ≡ finite y → z ≡ doubleAt s k 24 → d ≡ finite z → (b && d) ≡ endsFinite s k
+ends : (s : List ℕ) (k x : ℕ) (a b d : Bool) → x ≡ byteAt s k 0 → a ≡ control x → not a ≡ false →
+    b ≡ finite (doubleAt s k 16) → d ≡ finite (doubleAt s k 24) → (b && d) ≡ endsFinite s k
 unfolding endsFinite
-ends s k x a b d y z e f h p q r t = rw (← e, ← f, not-false a h, ← p, ← q, ← r, ← t)
+ends s k x a b d e f h p q = rw (← e, ← f, not-false a h, ← p, ← q)
 
 byte-requires : tie.Need-byte-requires
 byte-requires c κs = search needs
@@ -31,17 +30,11 @@ is-control-requires c κs = search needs
 returns : tie.Need-returns
 returns c = search other
 
-double-requires : tie.Need-double-requires
-double-requires c κs = search needs
+end-finite-requires : tie.Need-end-finite-requires
+end-finite-requires c κs = search needs
 
-is-finite-requires : tie.Need-is-finite-requires
-is-finite-requires c κs = search needs
-
-double-requires-2 : tie.Need-double-requires-2
-double-requires-2 c κs = search needs
-
-is-finite-requires-2 : tie.Need-is-finite-requires-2
-is-finite-requires-2 c κs = search needs
+end-finite-requires-2 : tie.Need-end-finite-requires-2
+end-finite-requires-2 c κs = search needs
 
 returns-2 : tie.Need-returns-2
 returns-2 c = search ends
@@ -53,8 +46,6 @@ ends-finite-spec =
     byte-requires
     is-control-requires
     returns
-    double-requires
-    is-finite-requires
-    double-requires-2
-    is-finite-requires-2
+    end-finite-requires
+    end-finite-requires-2
     returns-2)

@@ -4,7 +4,6 @@ ghost use mathlib.Core.Path.{_≡_};
 ghost use Prim.Native.Nat.{_+_, _≤_};
 ghost use lib.ListN.{length};
 ghost use lib.Ieee.{binary64, ofBits, toBits, toUnsigned};
-ghost use lib.Ieee.Scale.{finite};
 ghost use Rattle.base.specs.Words.{le64, put64};
 ghost use Rattle.float.specs.Leaf.{valueOf, positionOf, ComesBack, absOf, clampOf, normalise, rangeOf, farOf, crossedOf, nudge, sameRange, dueOf, flashOver};
 
@@ -116,14 +115,6 @@ pub fn same_range(low: f64, high: f64, low2: f64, high2: f64) -> bool
     ensures { λ r. ⌜ r ≡ sameRange low high low2 high2 ⌝ }
 {
     low == low2 && high == high2
-}
-
-// Neither a NaN nor an infinity: the difference with itself is a number.
-pub fn is_finite(x: f64) -> bool
-    ensures { λ r. ⌜ r ≡ finite x ⌝ }
-{
-    let d = x - x;
-    d == d
 }
 
 // ── the flash ──

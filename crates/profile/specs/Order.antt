@@ -1,18 +1,27 @@
--- The loop of `once_each`: where its table keeps a record, its invariant, and a law for each way through a turn. Assumes nothing.
+-- What the loops of `ordered` test; the loop of `once_each`: where its table keeps a record, its invariant, and a law for each way through a turn. Assumes
+-- nothing.
 use Prim.Native.Nat.{ℕ, _+_, _*_, _/_, _%_, _≤_, _<_}
 use mathlib.Core.Path.{_≡_, refl, sym, ap, _∙_}
 use mathlib.Core.List.{List}
-use mathlib.Core.Bool.{Bool, true, false, not}
+use mathlib.Core.Bool.{Bool, true, false, _&&_, _||_, not}
 use mathlib.Core.Logic.{_⊎_, ⊎-elim}
 use native.Mathlib.Omega.{arith}
 use lib.ListN.{length, getD, set, replicate, length-set, length-replicate}
-use lib.Dec.{eqb}
+use lib.Dec.{eqb, leb, ltb}
 use borrow.Author.Tests.{eqb-true, eq-eqb}
 use Rattle.base.specs.Range.{all, any, bit, every}
 use Rattle.base.specs.RangeLaws.{all-none, all-more, every-at, and-left, and-right, and-intro, any-cong, bool-iff}
 use Rattle.base.specs.Tables.{hit, Marks, marks-none, marks-skip, marks-set}
 use Rattle.profile.specs.Profile.{records, byteAt, control, same, again, fieldsOk}
 use Rattle.profile.specs.Fields.{control-at, control-kinds}
+
+-- record k is one that leads the file, where it may stand: the settings first, then the banks from 0 on
+abbrev pub leadsAt : List ℕ → ℕ → Bool
+leadsAt s k = (eqb k 0 && eqb (byteAt s k 0) 0) || (eqb (byteAt s k 0) 1 && eqb (byteAt s k 1 + 1) k)
+
+-- record k, behind all banks and a record of the kind `last`, stands where it may, and the bank that it names is there
+abbrev pub followsAt : List ℕ → ℕ → ℕ → ℕ → Bool
+followsAt s k last banks = leb last (byteAt s k 0) && (ltb 5 (byteAt s k 0) || (eqb (byteAt s k 1) 255 || ltb (byteAt s k 1) banks))
 
 -- the place of a kind, a bank and a number
 abbrev pub slotOf : ℕ → ℕ → ℕ → ℕ

@@ -1,18 +1,18 @@
 // Number 3: kinds, banks and numbers stand in the order that the lookups count on. Number 4: there is a bank.
 ghost use mathlib.Core.Path.{_≡_};
-ghost use mathlib.Core.Bool.{true, _&&_, _||_, cond};
+ghost use mathlib.Core.Bool.{true, _&&_, cond};
 ghost use Prim.Native.Nat.{_+_, _<_};
-ghost use lib.Dec.{ltb, leb, eqb};
+ghost use lib.Dec.{eqb};
 ghost use Rattle.base.specs.Range.{all};
-ghost use Rattle.profile.specs.Profile.{records, byteAt, kindCount, bankCount, orderedAt, control, onceEach, fieldsOk, orderOk, banksOk};
-ghost use Rattle.profile.specs.Order.{slotAt};
+ghost use Rattle.profile.specs.Profile.{records, kindCount, bankCount, orderedAt, control, onceEach, fieldsOk, orderOk, banksOk};
+ghost use Rattle.profile.specs.Order.{leadsAt, followsAt, slotAt};
 use crate::view::byte;
 use crate::view::wide;
 
 // Record k, of kind 0 or 1, stands where it may: first the settings, then the banks from 0 on.
 fn leads(s: &[u8], k: usize) -> bool
     requires { ⌜ k < records (now s) ⌝ }
-    ensures { λ r. ⌜ r ≡ ((eqb k 0 && eqb (byteAt (now (s .entry)) k 0) 0) || (eqb (byteAt (now (s .entry)) k 0) 1 && eqb (byteAt (now (s .entry)) k 1 + 1) k)) ⌝ }
+    ensures { λ r. ⌜ r ≡ leadsAt (now (s .entry)) k ⌝ }
 {
     let kind = byte(s, k, 0);
     let bank = wide(byte(s, k, 1));
@@ -22,7 +22,7 @@ fn leads(s: &[u8], k: usize) -> bool
 // Record k, behind all banks and a record of kind `last`, stands where it may, and the bank that it names is there.
 fn follows(s: &[u8], k: usize, last: u8, banks: usize) -> bool
     requires { ⌜ k < records (now s) ⌝ }
-    ensures { λ r. ⌜ r ≡ (leb last (byteAt (now (s .entry)) k 0) && (ltb 5 (byteAt (now (s .entry)) k 0) || (eqb (byteAt (now (s .entry)) k 1) 255 || ltb (byteAt (now (s .entry)) k 1) banks))) ⌝ }
+    ensures { λ r. ⌜ r ≡ followsAt (now (s .entry)) k last banks ⌝ }
 {
     let kind = byte(s, k, 0);
     let bank = wide(byte(s, k, 1));

@@ -4,7 +4,7 @@ ghost use mathlib.Core.Path.{_≡_};
 ghost use Prim.Native.Nat.{_+_, _≤_};
 ghost use lib.ListN.{length};
 ghost use lib.Ieee.{binary64, ofBits, toBits, toUnsigned};
-ghost use Rattle.base.specs.Words.{le64, put64};
+ghost use Rattle.base.specs.Words.{le64};
 ghost use Rattle.float.specs.Leaf.{valueOf, positionOf, ComesBack, absOf, clampOf, normalise, rangeOf, farOf, crossedOf, nudge, sameRange, dueOf, flashOver};
 
 // ── fader positions ──
@@ -185,11 +185,4 @@ pub fn read_f64(s: &[u8], at: usize) -> f64
     ensures { λ r. ⌜ r ≡ ofBits binary64 (le64 (now (s .entry)) at) ⌝ }
 {
     of_bits(base::read_u64(s, at))
-}
-
-pub fn put_f64(s: &mut [u8], at: usize, x: f64)
-    requires { ⌜ at + 8 ≤ length (now s) ⌝ }
-    ensures { λ _. ⌜ now (s .exit) ≡ put64 (now (s .entry)) at (toBits binary64 x) ⌝ }
-{
-    base::put_u64(s, at, to_bits(x));
 }

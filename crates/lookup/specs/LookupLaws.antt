@@ -11,10 +11,7 @@ use Rattle.base.specs.FirstLaws.{first-at, first-hit, until-le, until-here, unt
 use Rattle.base.specs.declared.Place.{Place}
 use Rattle.base.specs.declared.Place.the-variants.{At, Nothing}
 use Rattle.profile.specs.Profile.{records, byteAt, isKind}
-use Rattle.lookup.specs.declared.Destination.{Destination}
 use Rattle.lookup.specs.declared.Command.{Command}
-use Rattle.lookup.specs.declared.Found.{Found}
-use Rattle.lookup.specs.declared.Found.the-variants as found
 use Rattle.lookup.specs.declared.Bound.{Bound}
 use Rattle.lookup.specs.declared.Bound.the-variants as bound
 use Rattle.lookup.specs.Lookup.{isEntry, isPast, reach, entry, foundAt, controlOf, encoderOf, precede, orPlace, encoderPlace, before}
@@ -75,12 +72,6 @@ pub entry-in : (s : List ℕ) (kind part number k : ℕ) (f : Place) → f ≡ e
 entry-in s kind part number k f e q = entry-is s kind part number k (sym e ∙ q) .in-file
 
 -- "Globals precede the bank": r is what the globals have, h what the bank has
-pub there : (r f g : Found) (d : Destination) → r ≡ f → r ≡ found.To d → found.To d ≡ precede f g
-there r f g d e q = rw (← e, q)
-
-pub elsewhere : (r f g h : Found) → r ≡ f → r ≡ found.Nothing → h ≡ g → h ≡ precede f g
-elsewhere r f g h e q p = rw (← e, q) p
-
 pub runs-there : (r f g : Bound) (c : Command) → r ≡ f → r ≡ bound.Run c → bound.Run c ≡ before f g
 runs-there r f g c e q = rw (← e, q)
 

@@ -5,7 +5,7 @@ ghost use Prim.Native.Nat.{_+_, _<_, _≤_};
 ghost use lib.Dec.{ltb};
 ghost use lib.ListN.{length, getD, take};
 ghost use Rattle.profile.specs.Profile.{records, bankCount, verdict};
-ghost use Rattle.lookup.specs.Lookup.{positionsOf, rememberOf, isEntry, isPast, entry, ofPart, halfOf, byteOf, bankAt, nameOf, deviceOf, liveOf, recOf, selectOf, bankNamed, destAt, faderOf, encoderPlace, precede, sameDest, scenesOf, position, buttonOf, commandAt, entryAt, transportsOf, transportOf, before, ofKind, place, merged, seenEntries, seenDrivers, times, mostCommon, MayBeDriver};
+ghost use Rattle.lookup.specs.Lookup.{positionsOf, rememberOf, isEntry, isPast, entry, ofPart, halfOf, byteOf, bankAt, nameOf, deviceOf, liveOf, recOf, selectOf, bankNamed, destAt, faderOf, encoderPlace, sameDest, scenesOf, position, buttonOf, commandAt, entryAt, transportsOf, transportOf, before, ofKind, place, merged, seenEntries, seenDrivers, times, mostCommon, MayBeDriver};
 ghost use Rattle.base.specs.Keyed.{at};
 ghost use Rattle.base.specs.Words.{le16};
 
@@ -232,16 +232,6 @@ pub fn fader(profile: &[u8], bank: u8, number: u8) -> Found
     match find(profile, 2, bank, number) {
         base::Place::At(k) => Found::To(destination_at(profile, k)),
         base::Place::Nothing => Found::Nothing,
-    }
-}
-
-// The globals' fader or else the bank's.
-pub fn fader_in_reach(profile: &[u8], bank: u8, number: u8) -> Found
-    ensures { λ r. ⌜ r ≡ precede (faderOf (now (profile .entry)) 255 number) (faderOf (now (profile .entry)) bank number) ⌝ }
-{
-    match fader(profile, GLOBALS, number) {
-        Found::To(d) => Found::To(d),
-        Found::Nothing => fader(profile, bank, number),
     }
 }
 

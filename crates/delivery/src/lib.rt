@@ -53,7 +53,7 @@ fn undone(io: Io) -> Outcome
     requires { ⌜ 1 ≤ io .stop ⌝ }
     ensures { λ r. ⌜ r ≡ undoneBy (stopIn (io .stop) (io .due)) ⌝ }
 {
-    if io.stop == 1 {
+    if io.stop == drivers::WAITS {
         let c = io.due;
         return Outcome::Waiting(c);
     }
@@ -74,7 +74,7 @@ pub fn ending(
     ensures { λ r. ⌜ Ends io (now (cs .entry)) (now (ms .entry)) saved r (now (messages .entry)) (now (calls .entry)) (now (messages .exit)) (now (calls .exit)) ⌝ }
 {
     let opened = io.opened;
-    if io.stop != 0 {
+    if io.stop != drivers::GOING {
         let o = undone(io);
         return End {
             outcome: o,

@@ -3,16 +3,20 @@
 use crate::Answer;
 use crate::Call;
 use crate::Current;
+use crate::DECLINED;
 use crate::FaderList;
+use crate::GOING;
 use crate::Index;
 use crate::Io;
 use crate::Level;
 use crate::LiveFader;
 use crate::Lives;
 use crate::Names;
+use crate::OVERRUN;
 use crate::Reading;
 use crate::SceneList;
 use crate::Tried;
+use crate::WAITS;
 use crate::parse;
 ghost use mathlib.Core.Path.{_≡_};
 ghost use mathlib.Core.Bool.{false};
@@ -54,7 +58,7 @@ pub fn fresh(opened: [bool; 16]) -> Io
         asked: 0,
         sent: 0,
         opened: opened,
-        stop: 0,
+        stop: GOING,
         due: c,
     }
 }
@@ -116,7 +120,7 @@ fn ask_in(answers: &[u8], calls: &mut [u8], io: Io, c: Call) -> Got
     ensures { λ r. ⌜ ((ms : List ℕ) → got (replyIn (now (answers .entry)) (r .answer) (r .from) (r .count)) (shown (now (answers .entry)) (r .io) (now (calls .exit)) ms) ≡ askOf c (shown (now (answers .entry)) io (now (calls .entry)) ms)) ⌝ }
     ensures { λ r. ⌜ Listing (now (answers .entry)) (c .kind) (r .from) (r .count) ⌝ }
 {
-    if io.stop != 0 {
+    if io.stop != GOING {
         return Got {
             io: io,
             answer: Answer::Refused,
@@ -126,15 +130,15 @@ fn ask_in(answers: &[u8], calls: &mut [u8], io: Io, c: Call) -> Got
     }
     let n = io.asked;
     if 337 <= n {
-        return halt(io, c, 3);
+        return halt(io, c, OVERRUN);
     }
     let at = io.read;
     if answers.len() <= at {
-        return halt(io, c, 1);
+        return halt(io, c, WAITS);
     }
     let a = parse::first(&answers[at..], c.kind);
     if parse::is_unfit(a) {
-        return halt(io, c, 2);
+        return halt(io, c, DECLINED);
     }
     let count = items(&answers[at..], a);
     let to = 16 * n;
@@ -559,7 +563,7 @@ fn no_room(io: Io) -> Io
     ensures { λ r. ⌜ r ≡ roomless io ⌝ }
 {
     let mut u = io;
-    u.stop = 3;
+    u.stop = OVERRUN;
     u
 }
 
@@ -568,7 +572,7 @@ fn led_in(messages: &mut [u8], io: Io, note: u8, on: bool) -> Io
     requires { ⌜ 306 ≤ length (now messages) ⌝ }
     ensures { λ r. ⌜ ((ans cs : List ℕ) → shown ans r cs (now (messages .exit)) ≡ send (Led note on) (shown ans io cs (now (messages .entry)))) ⌝ }
 {
-    if io.stop != 0 {
+    if io.stop != GOING {
         return io;
     }
     let n = io.sent;
@@ -585,7 +589,7 @@ fn position_in(messages: &mut [u8], io: Io, channel: u8, value: f64) -> Io
     requires { ⌜ 306 ≤ length (now messages) ⌝ }
     ensures { λ r. ⌜ ((ans cs : List ℕ) → shown ans r cs (now (messages .exit)) ≡ send (sentTo channel value) (shown ans io cs (now (messages .entry)))) ⌝ }
 {
-    if io.stop != 0 {
+    if io.stop != GOING {
         return io;
     }
     let n = io.sent;

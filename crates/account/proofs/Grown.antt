@@ -42,9 +42,6 @@ pub weaken : {P Q : List Asked → Type 0} {t u : Talk} → ((l : List Asked) �
 weaken k g =
     record { was = g .was; more = g .more; calls = g .calls; left = g .left; opened = g .opened; fact = k _ (g .fact) }
 
-abbrev pub asked : {P : List Asked → Type 0} {t u : Talk} → Grown P t u → List Asked
-asked {t = t} g = paired (g .more) (t .left)
-
 -- one after the other
 pub join : {P R Q : List Asked → Type 0} {t u w : Talk} (g : Grown P t u) → Grown R u w →
     ((m : List Asked) → R m → Q (paired (g .more) (t .left) ++ m)) → Grown Q t w

@@ -7,5 +7,4 @@ pub mod Counts
 pub mod Theorem
 pub mod Teeth
 pub mod Starred
-pub mod Books
 pub mod Words

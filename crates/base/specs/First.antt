@@ -1,8 +1,6 @@
 -- Which number below n comes first, as a `Place`. Assumes nothing.
 use Prim.Native.Nat.{ℕ, zero, suc}
-use mathlib.Core.Bool.{Bool, true, false, _&&_, cond}
-use lib.Dec.{eqb}
-use Rattle.base.specs.Range.{count}
+use mathlib.Core.Bool.{Bool, cond}
 use Rattle.base.specs.declared.Place.{Place}
 use Rattle.base.specs.declared.Place.the-variants.{At, Nothing}
 
@@ -24,7 +22,3 @@ first (suc n) p = orElse (first n p) (cond (p n) (At n) Nothing)
 -- how many numbers come before the first below n of which p holds; n if there is none
 unfoldable pub until : ℕ → (ℕ → Bool) → ℕ
 until n p = placeOr n (first n p)
-
--- the number below n of which p holds and that has m such before it
-unfoldable pub nth : ℕ → (ℕ → Bool) → ℕ → Place
-nth n p m = first n (λ k. p k && eqb (count k p) m)

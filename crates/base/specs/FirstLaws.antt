@@ -1,19 +1,16 @@
 -- What a loop that counts up shows of `first` and `until`. Assumes nothing.
 use Prim.Native.Nat.{ℕ, zero, suc, _+_, _≤_, _<_}
 use mathlib.Core.Path.{_≡_, refl, sym, ap, _∙_, subst}
-use mathlib.Core.Bool.{Bool, true, false, cond, true≢false, _&&_}
-use lib.Dec.{eqb, ltb}
-use borrow.Author.Tests.{eq-eqb, ne-eqb, ltb-true, ltb-false}
-use native.Mathlib.Nat.{add-zero}
-use Rattle.base.specs.Range.{count}
-use Rattle.base.specs.RangeLaws.{count-none, count-more}
-use mathlib.Core.Logic.{_⊎_, inl, inr, ⊎-elim}
+use mathlib.Core.Bool.{Bool, true, false, cond, true≢false}
+use lib.Dec.{ltb}
+use borrow.Author.Tests.{ltb-true, ltb-false}
+use mathlib.Core.Logic.{⊎-elim}
 use native.Mathlib.Nat.{le-antisymm, not-suc-le-zero, le-of-suc-le-suc, eq-or-lt-of-le}
 use native.Mathlib.Numerals.{add-one}
 use native.Mathlib.Omega.{arith}
 use Rattle.base.specs.declared.Place.{Place}
 use Rattle.base.specs.declared.Place.the-variants.{At, Nothing}
-use Rattle.base.specs.First.{first, until, nth, orElse, placeOr}
+use Rattle.base.specs.First.{first, until, orElse, placeOr}
 
 module _ (p : ℕ → Bool) where
   pub first-none : first 0 p ≡ Nothing
@@ -104,29 +101,3 @@ module _ (p : ℕ → Bool) where
   -- as a loop knows it
   pub until-on : (n i : ℕ) → i < n → first i p ≡ Nothing → p i ≡ false → i < until n p
   until-on n i l h q = until-behind n i l (λ k m. ⊎-elim (λ e. rw e q) (first-misses i k h) (eq-or-lt-of-le m))
-
--- A loop that looks for the number that p holds of and that has m such before it: its invariant, and a law for each way through a turn.
-pub record Nth (p : ℕ → Bool) (m before k : ℕ) : Type 0 where
-  pub le : before ≤ k
-  pub is : before ≡ count k p
-  pub none : first k (λ i. p i && eqb (count i p) m) ≡ Nothing
-
-module _ (p : ℕ → Bool) (m : ℕ) where
-  pub nth-start : Nth p m 0 0
-  nth-start = record { le = omega arith; is = sym (count-none p); none = first-none _ }
-
-  pub nth-skip : (before k : ℕ) → Nth p m before k → p k ≡ false → Nth p m before (k + 1)
-  nth-skip before k h q =
-      record { le = omega arith; is = rw (count-more, q, add-zero) (h .is); none = first-more _ k (h .none) (rw q) }
-
-  pub nth-past : (before k : ℕ) → Nth p m before k → p k ≡ true → (before ≡ m → ⊥) → Nth p m (before + 1) (k + 1)
-  nth-past before k h q ne =
-      record { le = omega arith; is = rw (count-more, q, ← h .is); none = first-more _ k (h .none) (rw (q, ← h .is, ne-eqb before m ne)) }
-
-  pub nth-hit : (n before k : ℕ) → Nth p m before k → p k ≡ true → before ≡ m → k < n → At k ≡ nth n p m
-  unfolding nth
-  nth-hit n before k h q e l = first-hit _ n k (h .none) (rw (q, ← h .is, eq-eqb before m e)) l
-
-  pub nth-done : (n before k : ℕ) → Nth p m before k → k ≤ n → n ≤ k → Nothing ≡ nth n p m
-  unfolding nth
-  nth-done n before k h a b = first-done _ k n a b (h .none)

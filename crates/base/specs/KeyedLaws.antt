@@ -1,15 +1,15 @@
 -- The lists of Keyed.antt, kept as the first n of an array xs. Each law holds for every array; its capacity is `length xs`. Assumes nothing.
 use mathlib.Core.Path.{_≡_, refl, sym, ap, _∙_, subst}
-use mathlib.Core.Bool.{Bool, true, false, _&&_, not, true≢false}
+use mathlib.Core.Bool.{Bool, true, false, true≢false}
 use mathlib.Core.List.{List, [], _∷_, _++_, map, append-nil}
-use mathlib.Core.Option.{Option, none, some}
+use mathlib.Core.Option.{none, some}
 use Prim.Native.Nat.{ℕ, zero, suc, _+_, _≤_, _<_}
 use native.Mathlib.Numerals.{add-one}
 use native.Mathlib.Omega.{arith}
-use lib.ListN.{length, getD, take, set, drop, drop-of-length-le, length-take, length-map}
-use lib.Seq.{take-suc, take-set-lt, take-suc-set, getD-take, length-take-le, drop-cons}
+use lib.ListN.{length, getD, take, set, length-map}
+use lib.Seq.{take-suc, take-set-lt, take-suc-set, getD-take, length-take-le}
 use lib.Dec.{ltb, leb}
-use borrow.Author.Tests.{lt-ltb, le-ltb, leb-false, ltb-true, ltb-false}
+use borrow.Author.Tests.{leb-false, ltb-true, ltb-false}
 use Rattle.base.specs.Pigeon.{all-append, once-append}
 use Rattle.base.specs.Choice.{pick}
 use Rattle.base.specs.Keyed.{at, find, anyOf, allOf, change, keep, noTwice}
@@ -204,9 +204,6 @@ module _ {A : Type 0} (f : A → Bool) (d : A) where
     pub keep-no : j < length xs → f (getD xs j d) ≡ false → take k ts ≡ keep f (take (j + 1) xs)
     keep-no h g = rw (add-one, keep-more xs j h, g, append-nil) e
 
-    pub keep-done : (n : ℕ) → j ≤ n → n ≤ j → take k ts ≡ keep f (take n xs)
-    keep-done n h l = let q : j ≡ n = omega arith in subst (λ (m : ℕ). take k ts ≡ keep f (take m xs)) q e
-
 -- ── a change leaves a list as long, or one longer ──
 module _ {A : Type 0} (f : A → Bool) (g : A → A) (y : A) where
   pub change-longer : (xs : List A) → length xs ≤ length (change f g y xs)
@@ -226,14 +223,6 @@ module _ {A : Type 0} (f : A → Bool) (g : A → A) (y : A) where
       go : (b : Bool) → length (change f g y xs) ≤ suc (length xs) → length (pick b (g x ∷ xs) (x ∷ change f g y xs)) ≤ suc (suc (length xs))
       go true k = omega arith
       go false k = omega arith
-
--- ── going through a list, counting up ──
-module _ {A : Type 0} (d : A) (xs : List A) (n i : ℕ) (l : n ≤ length xs) where
-  pub seen-next : i < n → drop i (take n xs) ≡ getD xs i d ∷ drop (i + 1) (take n xs)
-  seen-next h = rw (add-one, ← getD-take n xs i d h) (drop-cons (take n xs) i d (omega (arith, length-take-le n xs l)))
-
-  pub seen-end : n ≤ i → drop i (take n xs) ≡ []
-  seen-end h = drop-of-length-le (take n xs) {i = i} (omega (arith, length-take-le n xs l))
 
 -- ── a test of each, counting up ──
 module _ {A : Type 0} (f : A → Bool) (d : A) where

@@ -3,7 +3,7 @@ use Prim.Native.Nat.{ℕ, zero, suc, _+_, _≤_, _<_}
 use mathlib.Core.Path.{_≡_, refl, sym, ap, _∙_, subst}
 use mathlib.Core.List.{List, [], _∷_}
 use lib.ListN.{getD}
-use mathlib.Core.Bool.{Bool, true, false, _&&_, _||_, not, and-false, and-true, or-true, false≢true}
+use mathlib.Core.Bool.{Bool, true, false, _&&_, _||_, and-false, false≢true}
 use mathlib.Core.Logic.{_⊎_, inl, inr, ⊎-elim}
 use native.Mathlib.Nat.{le-antisymm, not-suc-le-zero, le-of-suc-le-suc, eq-or-lt-of-le}
 use native.Mathlib.Numerals.{add-one}
@@ -90,19 +90,6 @@ module _ (p : ℕ → Bool) where
   pub any-more : (i : ℕ) → any (i + 1) p ≡ (any i p || p i)
   unfolding any
   any-more i = rw add-one
-
-  -- one that is true
-  pub any-here : (n k : ℕ) → k < n → p k ≡ true → any n p ≡ true
-  unfolding any
-  any-here zero k l q = absurd (not-suc-le-zero l)
-  any-here (suc n) k l q =
-      ⊎-elim (λ e. ap (λ (b : Bool). any n p || b) (rw e at q) ∙ or-true (any n p)) (λ lt. rw (any-here n k lt q)) (eq-or-lt-of-le (le-of-suc-le-suc l))
-
-  -- which one it is
-  pub any-at : (n : ℕ) → any n p ≡ true → (k : ℕ) × (k < n) × (p k ≡ true)
-  unfolding any
-  any-at zero h = absurd (false≢true h)
-  any-at (suc n) h = ⊎-elim (λ a. let w = any-at n a in (w .0, omega arith, w .2)) (λ b. (n, omega arith, b)) (or-cases (any n p) (p n) h)
 
 -- two Booleans of which each is true where the other is
 pub bool-iff : (a b : Bool) → (a ≡ true → b ≡ true) → (b ≡ true → a ≡ true) → a ≡ b

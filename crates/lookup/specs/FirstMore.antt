@@ -1,13 +1,12 @@
 -- More of `first` and `all`. Assumes nothing.
 use Prim.Native.Nat.{ℕ, zero, suc, _≤_, _<_}
-use mathlib.Core.Path.{_≡_, refl, sym, _∙_}
-use mathlib.Core.Bool.{Bool, true, false, true≢false}
+use mathlib.Core.Path.{_≡_, refl, _∙_}
+use mathlib.Core.Bool.{Bool, true, false}
 use mathlib.Core.Logic.{⊎-elim}
 use native.Mathlib.Nat.{eq-or-lt-of-le, le-of-suc-le-suc, le-antisymm}
 use native.Mathlib.Omega.{arith}
 use Rattle.base.specs.Range.{all}
 use Rattle.base.specs.First.{first, orElse}
-use Rattle.base.specs.FirstLaws.{first-misses}
 use Rattle.base.specs.declared.Place.{Place}
 use Rattle.base.specs.declared.Place.the-variants.{At, Nothing}
 
@@ -16,14 +15,6 @@ module _ (p : ℕ → Bool) where
   unfolding first
   first-nothing zero h = refl
   first-nothing (suc n) h = rw (first-nothing n (λ k l. h k (omega arith)), h n (omega arith))
-
-  -- where p holds of some number below n, one is found
-  pub first-some : (n k : ℕ) → k < n → p k ≡ true → (i : ℕ) × (first n p ≡ At i)
-  first-some n k l e = go (first n p) refl
-    where
-      go : (f : Place) → first n p ≡ f → (i : ℕ) × (first n p ≡ At i)
-      go (At i) h = (i, h)
-      go Nothing h = let z : true ≡ false = sym e ∙ first-misses p n k h l in absurd (true≢false z)
 
   pub all-each : (n : ℕ) → ((k : ℕ) → k < n → p k ≡ true) → all n p ≡ true
   unfolding all

@@ -1,6 +1,6 @@
 -- What a profile that is not declined is known to be. Assumes nothing.
 use Prim.Native.Nat.{ℕ, zero, suc, _+_, _≤_, _<_}
-use mathlib.Core.Path.{_≡_, refl, _∙_}
+use mathlib.Core.Path.{_≡_, refl}
 use mathlib.Core.List.{List}
 use mathlib.Core.Bool.{Bool, true, false, not, cond, _||_}
 use mathlib.Core.Logic.{⊎-elim}
@@ -12,9 +12,9 @@ use lib.ListN.{length}
 use lib.Dec.{eqb, leb}
 use borrow.Author.Tests.{leb-true, eqb-true, not-true, eqb-false, eq-eqb}
 use Rattle.base.specs.Range.{count}
-use Rattle.base.specs.RangeLaws.{and-left, and-right, all-at, every-at}
-use Rattle.profile.specs.Profile.{kindCount, records, byteAt, doubleAt, isKind, bankCount, sizeOk, fieldsOk, orderOk, orderedAt, banksOk, limitsOk, atMost, countOf, finiteOk, endsFinite, control, verdict}
-use Rattle.profile.specs.RangeMore.{count-below, count-reach}
+use Rattle.base.specs.RangeLaws.{all-at, every-at}
+use Rattle.profile.specs.Profile.{kindCount, records, byteAt, isKind, bankCount, sizeOk, fieldsOk, orderOk, orderedAt, banksOk, limitsOk, atMost, countOf, finiteOk, verdict}
+use Rattle.profile.specs.RangeMore.{count-below}
 use Rattle.profile.specs.Fields.{bank-at}
 
 pub record Accepted (s : List ℕ) : Type 0 where
@@ -49,7 +49,7 @@ module _ (s : List ℕ) (yes : verdict s ≡ 0) where
   pub some-bank : 1 ≤ bankCount s
   some-bank = pos-of-ne-zero (eqb-false (bankCount s) 0 (not-true (eqb (bankCount s) 0) (accepted s yes .banks)))
 
-  -- at most 128 scenes and 16 transports in one bank or the globals, 16 default buttons of one driver
+  -- at most 128 scenes and 16 transports in one bank or the globals
   pub few-scenes : (b : ℕ) → b < 256 → countOf s 4 b ≤ 128
   unfolding limitsOk atMost
   few-scenes b l = leb-true (countOf s 4 b) 128 (all-at (λ x. leb (countOf s 4 x) 128) 256 b (every-at _ 0 (accepted s yes .limits)) l)
@@ -57,15 +57,6 @@ module _ (s : List ℕ) (yes : verdict s ≡ 0) where
   pub few-transports : (b : ℕ) → b < 256 → countOf s 5 b ≤ 16
   unfolding limitsOk atMost
   few-transports b l = leb-true (countOf s 5 b) 16 (all-at (λ x. leb (countOf s 5 x) 16) 256 b (every-at _ 1 (accepted s yes .limits)) l)
-
-  pub few-buttons : (b : ℕ) → b < 256 → countOf s 6 b ≤ 16
-  unfolding limitsOk atMost
-  few-buttons b l = leb-true (countOf s 6 b) 16 (all-at (λ x. leb (countOf s 6 x) 16) 256 b (every-at _ 2 (accepted s yes .limits)) l)
-
-  -- both ends of a fader's or an encoder's range are finite
-  pub ends-at : (k : ℕ) → k < records s → control (byteAt s k 0) ≡ true → (finite (doubleAt s k 16) ≡ true) × (finite (doubleAt s k 24) ≡ true)
-  unfolding finiteOk endsFinite
-  ends-at k l e = let h = rw e at (all-at (endsFinite s) (records s) k (accepted s yes .finite) l) in (and-left _ _ h, and-right (finite (doubleAt s k 16)) _ h)
 
   ordered-at : (k : ℕ) → k < records s → orderedAt s k ≡ true
   unfolding orderOk
@@ -90,14 +81,6 @@ module _ (s : List ℕ) (yes : verdict s ≡ 0) where
       count-below (isKind s 1) 16 (records s)
       (λ k l e. let q = eqb-true (byteAt s k 0) 1 e in omega (arith, bank-runs k l q, bank-at s (accepted s yes .fields) k l q .own))
 
-  -- each of them has its record
-  pub bank-there : (b : ℕ) → b < bankCount s → (k : ℕ) × (k < records s) × (byteAt s k 0 ≡ 1) × (byteAt s k 1 ≡ b)
-  unfolding kindCount
-  bank-there b l =
-      let w = count-reach (isKind s 1) b (records s) l in
-      let q = eqb-true (byteAt s (w .0) 0) 1 (w .2) in
-      (w .0, w .1, q, bank-runs (w .0) (w .1) q ∙ w .3)
-
   -- kinds never fall: a later record's is at least an earlier one's
   pub kinds-rise : (j k : ℕ) → j ≤ k → k < records s → byteAt s j 0 ≤ byteAt s k 0
   kinds-rise j zero h l = rw (le-antisymm h (omega arith)) (omega arith)
@@ -106,12 +89,3 @@ module _ (s : List ℕ) (yes : verdict s ≡ 0) where
       (λ e. rw e (omega arith))
       (λ m. let q : byteAt s k 0 ≤ byteAt s (suc k) 0 = rw add-one at (kind-rises k (omega arith)) in omega (arith, kinds-rise j k (omega arith) (omega arith)))
       (eq-or-lt-of-le h)
-
-  -- the settings are the first record
-  pub settings-first : byteAt s 0 0 ≡ 0
-  unfolding orderOk kindCount
-  settings-first =
-      let one : count (records s) (isKind s 0) ≡ 1 = eqb-true (count (records s) (isKind s 0)) 1 (every-at _ 0 (accepted s yes .order)) in
-      let w = count-reach (isKind s 0) 0 (records s) (omega arith) in
-      let q = eqb-true (byteAt s (w .0) 0) 0 (w .2) in
-      omega (arith, kinds-rise 0 (w .0) (omega arith) (w .1))

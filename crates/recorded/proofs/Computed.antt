@@ -3,7 +3,7 @@ use lib.Dec.{T}
 use Rattle.base.specs.Same.{sameList}
 use lib.Ieee.{add, sub, mul, div, lt, le, eq, ofInt, ofBits, toBits, toUnsigned}
 use Rattle.base.specs.First.{first, until}
-use Rattle.base.specs.Keyed.{at, find, anyOf, change, keep, allOf, noTwice, beside}
+use Rattle.base.specs.Keyed.{at, find, anyOf, change, keep, beside}
 use Rattle.base.specs.Range.{all, any, count, every}
 use Rattle.base.specs.Words.{le64}
 use Rattle.float.specs.Leaf.{held, absOf, clampOf, floorOf, atLeast0, dueOf}
@@ -27,14 +27,9 @@ use Rattle.definition.specs.Scenes.{sceneNames, sceneOnDevice, loadOn, loadScen
 use Rattle.definition.specs.Step.{seen, tick, act, refusal, step}
 use Rattle.profile.specs.Profile.{kindCount}
 use Rattle.drivers.specs.Bytes.{joined}
-use Rattle.definition.specs.Shape.{wellShaped, shapedLine, shapedStrips, shapedTurns, shapedSilenced, shapedFlash}
-use Rattle.recorded.specs.Recorded.{runs, agree, shaped}
+use Rattle.recorded.specs.Recorded.{runs, agree}
 use Rattle.recorded.specs.Table.{recordings}
 
 pub computed : T (agree recordings)
 unfolding agree runs sameList joined add sub mul div lt le eq ofInt ofBits toBits toUnsigned first until at find anyOf change keep all any count every le64 held absOf clampOf floorOf atLeast0 dueOf baseOf namedOf kindOf channelOf noteOf transportNote decodeOf bytesOf gather reach entry bankNamed controlOf sameDest scenesOf position transportsOf transportOf place merged times topAt mostCommon itemsOf sceneList liveList yesNo toRead toPlaying toScenes toCurrent toLive toOther answerOf itemCount next ask isOpen opening plainCall openFor useCall useDone readOf writeCall writeOf toggleOf commandOf playingOf drivers-scenesOf currentOf loadOf liveOf send isMarked markAt noMarks unmarkUpTo unmarkBank lastMove movedTo placeMove hasPlace turn beside isHushed hushedLevel hush hasRoom unhush seenStrips stripAt stripDest stripOf stripsOf sameStrip sameStrips stripsAt stripsFor wasMuted noteMuted noneNoted soloTo loadedBy sceneAt sceneTo sceneUnknown flashing noFlash noneLit freshSession eventOk inputOf event-readOf selectBank nextBank stepBank defaultButton runCommand recLoads pressOf button addedBy holdMove takeMove fader encoder turnRefusal applyNudge nudges writes drain drained phases phasesTo sendHome finishFlash flashNumber flashBank tickFlash pushPosition isMuted pushFader pushFaders pushState pushBound pushTransport read write readMute refreshLive handBack keepLevel zeroed mute setMute peer soloOff noteMutes soloOn solo soloAdds addedBySolo addedByMute ownFader destination encoderDest ownDrivers bankDriver device firstTarget sceneNames sceneOnDevice loadOn loadSceneAt start stepScene scene seen tick act refusal step kindCount
 computed = tt
-
-pub fresh-shaped : T (shaped recordings)
-unfolding shaped wellShaped shapedLine shapedStrips shapedTurns shapedSilenced shapedFlash freshSession beside allOf noTwice every kindCount count
-fresh-shaped = tt

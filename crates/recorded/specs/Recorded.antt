@@ -12,7 +12,6 @@ use Rattle.session.specs.Session.{freshSession}
 use Rattle.event.specs.Event.{readOf}
 use Rattle.event.specs.declared.Read.{Read}
 use Rattle.event.specs.declared.Read.the-variants.{Known, Unknown}
-use Rattle.definition.specs.Shape.{wellShaped}
 use Rattle.definition.specs.Step.{Kept, Ended, done, refused, waiting, Stepped, stepped, seen, step}
 
 -- an event and the answers that it is offered with, as bytes; how it must end
@@ -57,8 +56,3 @@ recording p os = record { profile = p; offers = os }
 unfoldable pub agree : List Recording → Bool
 agree [] = true
 agree (r ∷ rs) = runs (viewOf (r .profile)) (r .offers) (seen (r .profile) freshSession) && agree rs
-
--- a fresh session is well shaped under the profile of every recording
-unfoldable pub shaped : List Recording → Bool
-shaped [] = true
-shaped (r ∷ rs) = wellShaped (r .profile) freshSession && shaped rs

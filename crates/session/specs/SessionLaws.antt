@@ -220,10 +220,6 @@ pub record WellStrips (l : List Strip) : Type 0 where
   pub drivers : allOf lowDriver l ≡ true
   pub once : noTwice sameNumbered l ≡ true
 
-pub strips-empty : WellStrips []
-unfolding allOf noTwice
-strips-empty = record { low = refl; drivers = refl; once = refl }
-
 pub strips-well : (driver : ℕ) (l : List LiveFader) → driver < 16 → noTwice sameNumber l ≡ true → WellStrips (stripsOf driver l)
 unfolding stripOf
 strips-well driver l h o =

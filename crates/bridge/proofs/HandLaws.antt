@@ -49,10 +49,9 @@ use Rattle.rig.specs.declared.Current.{Current}
 use Rattle.hands.specs.Sums.{SumsFit}
 use Rattle.hands.specs.Verdicts.{leftBy, controlled, Fades}
 use Rattle.hands.specs.declared.Verdict.{Verdict}
-use Rattle.delivery.specs.Delivery.{outcomeOf, isDone, messagesAfter, callsAfter, endOf, HasRoom, Ends}
+use Rattle.delivery.specs.Delivery.{outcomeOf, isDone, messagesAfter, callsAfter, endOf, HasRoom}
 use Rattle.delivery.specs.declared.Outcome.{Outcome}
 use Rattle.delivery.specs.declared.Outcome.the-variants as outcome
-use Rattle.delivery.specs.declared.End.{End}
 use Rattle.after.specs.After.{keptWith, KeepsPlaces}
 use Rattle.after.specs.After as after
 use Rattle.bounds.specs.Well.{Well}

@@ -6,7 +6,7 @@ use mathlib.Core.List.{List, map}
 use mathlib.Core.Option.{none}
 use lib.Dec.{eqb, ltb}
 use lib.IntN.{ℤ}
-use lib.ListN.{length, getD}
+use lib.ListN.{getD}
 use lib.Ieee.{Float}
 use Rattle.base.specs.Choice.{pick}
 use Rattle.protocol.specs.declared.Event.the-variants as event
@@ -23,7 +23,7 @@ use Rattle.definition.specs.Rig.{Rig}
 use Rattle.definition.specs.Faders.{nudges, writes}
 use Rattle.definition.specs.Live.{isDue}
 use Rattle.definition.specs.Shape.{wellShaped}
-use Rattle.definition.specs.Step.{Left, Ended, done, refused, waiting, Stepped, seen, act, step}
+use Rattle.definition.specs.Step.{Left, done, Stepped, seen, act, step}
 use Rattle.bounds.specs.Room.{FewOf}
 use Rattle.rig.specs.declared.Current.{Current}
 use Rattle.after.specs.After.{leftOf}

@@ -5,7 +5,7 @@ use mathlib.Core.Bool.{Bool, true, false}
 use lib.Dec.{eqb, leb, ltb}
 use lib.Ieee.{Float}
 use Rattle.base.specs.Choice.{pick}
-use Rattle.drivers.specs.Talk.{Talk, Got, Act, got, next}
+use Rattle.drivers.specs.Talk.{Act, got, next}
 use Rattle.session.specs.declared.Lamps.{Lamps}
 use Rattle.session.specs.declared.Moves.{Moves}
 use Rattle.definition.specs.Rig.{Rig}

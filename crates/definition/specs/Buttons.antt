@@ -1,28 +1,25 @@
 -- What a pressed button does: `button`, `default_button`, `run_command`. Definitions only.
 use Prim.Native.Nat.{ℕ, _+_}
 use mathlib.Core.List.{List, []}
-use mathlib.Core.Bool.{Bool, true, false, _&&_, _||_}
+use mathlib.Core.Bool.{Bool, true, false, _||_}
 use mathlib.Core.Option.{Option, none, some}
 use lib.Dec.{eqb}
-use lib.ListN.{length}
 use lib.Ieee.{Float}
 use Rattle.base.specs.Choice.{pick}
 use Rattle.protocol.specs.Protocol.{kindOf, channelOf}
-use Rattle.protocol.specs.declared.Button.{Button}
 use Rattle.protocol.specs.declared.Found as channels
 use Rattle.protocol.specs.declared.Found.the-variants as channel
 use Rattle.lookup.specs.Lookup.{transportOf, before}
 use Rattle.lookup.specs.declared.Bound.{Bound}
 use Rattle.lookup.specs.declared.Bound.the-variants as bound
-use Rattle.lookup.specs.declared.Command.{Command}
-use Rattle.drivers.specs.Talk.{Talk, Got, Act, got, next, _>>=_, openFor, commandOf}
+use Rattle.drivers.specs.Talk.{Talk, Got, Act, got, next, openFor, commandOf}
 use Rattle.session.specs.Session.{Hushed, targetsOf}
 use Rattle.session.specs.declared.Lamps.{Lamps}
 use Rattle.session.specs.declared.Moves.{Moves}
 use Rattle.definition.specs.Rig.{Rig, Here, bankDriver, firstTarget}
 use Rattle.definition.specs.Banks.{Selected, selectBank, stepBank}
 use Rattle.definition.specs.Scenes.{Paged, stepScene, scene}
-use Rattle.definition.specs.Muting.{Soloed, mute, solo, addedBySolo, addedByMute}
+use Rattle.definition.specs.Muting.{mute, solo, addedBySolo, addedByMute}
 
 -- what a press leaves. Where a bank was selected or a scene loaded, `moved`, "clear all marks", and the live bank is due
 pub record Pressed : Type 0 where

@@ -5,12 +5,10 @@ use mathlib.Core.List.{List}
 use mathlib.Core.Bool.{Bool, true, false}
 use lib.Dec.{eqb, leb}
 use lib.Ieee.{Float}
-use Rattle.base.specs.Choice.{pick}
 use Rattle.float.specs.Leaf.{f0, dueOf, flashOver}
 use Rattle.protocol.specs.Protocol.{sentTo}
 use Rattle.protocol.specs.declared.Out.the-variants.{Led}
 use Rattle.drivers.specs.Talk.{Talk, Got, Act, got, send}
-use Rattle.drivers.specs.declared.Level.{Level}
 use Rattle.session.specs.Session.{lastMove, flashing, noFlash}
 use Rattle.session.specs.declared.Flash.{Flash}
 use Rattle.session.specs.declared.Lamps.{Lamps}

@@ -4,15 +4,12 @@ use mathlib.Core.List.{List, [], _∷_, _++_}
 use mathlib.Core.Bool.{Bool, true, false, _&&_}
 use mathlib.Core.Option.{Option, none, some}
 use lib.Dec.{eqb}
-use lib.Ieee.{Float}
-use Rattle.base.specs.Choice.{pick}
 use Rattle.base.specs.Keyed.{find}
 use Rattle.protocol.specs.Protocol.{sentTo, transportNote}
 use Rattle.protocol.specs.declared.Out.the-variants.{Led}
 use Rattle.protocol.specs.declared.Found as notes
 use Rattle.protocol.specs.declared.Found.the-variants as note
 use Rattle.lookup.specs.Lookup.{merged}
-use Rattle.lookup.specs.View.{Part}
 use Rattle.lookup.specs.declared.Destination.{Destination}
 use Rattle.lookup.specs.declared.Command.{Command}
 use Rattle.lookup.specs.declared.Entry.{Entry}
@@ -23,7 +20,7 @@ use Rattle.drivers.specs.declared.Level.{Level}
 use Rattle.drivers.specs.declared.Level.the-variants.{At, Unknown}
 use Rattle.session.specs.Session.{isHushed}
 use Rattle.session.specs.declared.Lamps.{Lamps}
-use Rattle.definition.specs.Rig.{Rig, Here, destination}
+use Rattle.definition.specs.Rig.{Rig, destination}
 use Rattle.definition.specs.Levels.{read, readMute, keptBy, hasMute}
 
 -- ── one fader ──

@@ -1,18 +1,17 @@
 -- A live bank's faders, asked of its driver right after a change and then once a second: `refresh_live`. Definitions only.
 use Prim.Native.Nat.{ℕ}
-use mathlib.Core.List.{List, []}
-use mathlib.Core.Bool.{Bool, true, false, _&&_, _||_}
+use mathlib.Core.List.{List}
+use mathlib.Core.Bool.{Bool, true, false, _||_}
 use mathlib.Core.Option.{Option, none, some}
 use lib.Dec.{eqb}
 use lib.Ieee.{Float, binary64, sub, le}
-use Rattle.base.specs.Choice.{pick}
 use Rattle.float.specs.Leaf.{f1}
-use Rattle.drivers.specs.Talk.{Talk, Got, Act, got, next, Listed, liveOf}
+use Rattle.drivers.specs.Talk.{Act, got, next, Listed, liveOf}
 use Rattle.drivers.specs.declared.LiveFader.{LiveFader}
 use Rattle.session.specs.Session.{stripsOf, sameStrips}
 use Rattle.session.specs.declared.Strip.{Strip}
 use Rattle.session.specs.declared.Lamps.{Lamps}
-use Rattle.definition.specs.Rig.{Rig, Here, withStrips}
+use Rattle.definition.specs.Rig.{Rig, withStrips}
 use Rattle.definition.specs.Lamps.{pushState}
 
 -- the list that the bank has now, and whether it is another one

@@ -9,7 +9,6 @@ use lib.ListN.{getD}
 use Rattle.base.specs.Choice.{pick}
 use Rattle.lookup.specs.Lookup.{precede, mostCommon}
 use Rattle.lookup.specs.View.{Part, View}
-use Rattle.lookup.specs.declared.Destination.{Destination}
 use Rattle.lookup.specs.declared.Found.{Found}
 use Rattle.lookup.specs.declared.Found.the-variants as found
 use Rattle.session.specs.Session.{stripsOr, stripAt, foundStrip}

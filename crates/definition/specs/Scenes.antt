@@ -1,8 +1,8 @@
 -- Paging through the scenes of the current device, and loading them: `scene_names`, `step_scene`, `scene_on_device`, `load_scene_at`, `scene`.
 -- Definitions only.
-use Prim.Native.Nat.{ℕ, zero, suc, _+_, _-_, min}
+use Prim.Native.Nat.{ℕ, _+_, _-_, min}
 use mathlib.Core.List.{List, []}
-use mathlib.Core.Bool.{Bool, true, false, _&&_, _||_, not}
+use mathlib.Core.Bool.{Bool, true, false, _||_}
 use lib.Dec.{eqb, leb, ltb}
 use lib.ListN.{length, getD}
 use lib.Ieee.{Float}
@@ -10,7 +10,7 @@ use Rattle.base.specs.Choice.{pick}
 use Rattle.base.specs.declared.Place.{Place}
 use Rattle.base.specs.declared.Place.the-variants as place
 use Rattle.lookup.specs.Lookup.{position}
-use Rattle.drivers.specs.Talk.{Talk, Got, Act, got, next, _>>=_, Listed, scenesOf, currentOf, loadOf}
+use Rattle.drivers.specs.Talk.{Act, got, next, _>>=_, scenesOf, currentOf, loadOf}
 use Rattle.drivers.specs.declared.Index.{Index}
 use Rattle.drivers.specs.declared.Index.the-variants as index
 use Rattle.session.specs.Session.{sceneAt, sceneTo, sceneUnknown, soloTo, noneNoted, loadedBy}

@@ -4,7 +4,7 @@ use Prim.Native.Nat.{ℕ}
 use mathlib.Core.Path.{_≡_, refl, sym, ap, subst, _∙_}
 use mathlib.Core.Bool.{Bool, true, false, _||_}
 use mathlib.Core.List.{List, [], _∷_, map}
-use lib.Dec.{eqb, ltb}
+use lib.Dec.{ltb}
 use lib.ListN.{length}
 use borrow.Author.Tests.{eq-eqb}
 use Rattle.base.specs.Choice.{pick}
@@ -16,12 +16,12 @@ use Rattle.event.specs.Event.{readOf}
 use Rattle.event.specs.declared.Read.{Read}
 use Rattle.event.specs.declared.Read.the-variants.{Known, Unknown}
 use Rattle.definition.specs.Shape.{wellShaped}
-use Rattle.definition.specs.Step.{Kept, freshKept, Ended, stepped, refused, seen, step}
+use Rattle.definition.specs.Step.{Kept, freshKept, stepped, refused, seen, step}
 use Rattle.definition.specs.Whole.{whole, offered}
-use Rattle.account.specs.Account.{Holds, Offer, stepOf, pasts, final, account, blank}
+use Rattle.account.specs.Account.{Holds, stepOf, pasts, final, account, blank}
 use Rattle.account.proofs.Theorem.{demand-3-of}
 use Rattle.bridge.proofs.ShapedLaws.{fresh-seen, fresh-shaped, stays-shaped}
-use Rattle.demands.specs.Running.{Step, Does, Runs, offerOf}
+use Rattle.demands.specs.Running.{Step, Runs, offerOf}
 
 -- ── one call ──
 

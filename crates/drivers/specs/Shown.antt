@@ -1,12 +1,12 @@
 -- What the code's line and both buffers show of the definitions' line: a function, so that each contract is one equation. Definitions only.
 use Prim.Native.Nat.{ℕ, zero, suc, _+_, _*_, _≤_, _<_}
 use mathlib.Core.Path.{_≡_}
-use mathlib.Core.List.{List, [], _∷_, _++_, map}
+use mathlib.Core.List.{List, [], _∷_, _++_}
 use mathlib.Core.Bool.{Bool, true}
 use lib.ListN.{length, getD, set, take, drop}
 use Rattle.base.specs.Words.{le16, le32, le64, bytes16, bytes32, bytes64}
 use Rattle.drivers.specs.Answers.{itemsOf}
-use Rattle.drivers.specs.Talk.{Stop, going, waits, declined, overrun, Talk, Reply, Listed, nameOf}
+use Rattle.drivers.specs.Talk.{Stop, going, waits, declined, overrun, Talk, Reply, Listed}
 use Rattle.drivers.specs.declared.Call.{Call}
 use Rattle.drivers.specs.declared.Answer.{Answer}
 use Rattle.drivers.specs.declared.Io.{Io}

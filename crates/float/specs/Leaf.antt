@@ -2,7 +2,7 @@
 -- A constant is written by its bit pattern, with its decimal beside it. Definitions only.
 use Prim.Native.Nat.{ℕ, suc, _+_, _*_, _/_, _%_, _^_, _<_, min}
 use mathlib.Core.Path.{_≡_}
-use mathlib.Core.Bool.{Bool, true, false, cond, _&&_}
+use mathlib.Core.Bool.{Bool, false, cond, _&&_}
 use lib.Dec.{eqb}
 use lib.IntN.{ℤ, pos, negsuc}
 use lib.Ieee.{Float, nan, inf, fin, up, down, binary64, add, sub, mul, div, lt, le, eq, ofInt, ofBits, toUnsigned, round}

@@ -1,6 +1,6 @@
 -- A law of the promise: what `bridge::step` promises, told in numbers, of the session that stands in place after it. Assumes nothing.
 use Prim.Native.Nat.{ℕ}
-use mathlib.Core.Path.{_≡_, refl, ap, sym, subst, _∙_}
+use mathlib.Core.Path.{_≡_, refl, ap, subst, _∙_}
 use mathlib.Core.Bool.{true≢false}
 use mathlib.Core.List.{List}
 use Rattle.session.specs.declared.Session.{Session}

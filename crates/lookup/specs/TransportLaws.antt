@@ -5,7 +5,6 @@ use mathlib.Core.List.{List, [], _∷_, _++_, map, map-append}
 use mathlib.Core.Bool.{Bool, true, false, _&&_}
 use native.Mathlib.Omega.{arith}
 use Rattle.base.specs.Range.{count, every}
-use Rattle.base.specs.First.{first}
 use Rattle.profile.specs.RangeMore.{count-mono}
 use Rattle.profile.specs.Profile.{records, countOf, verdict}
 use Rattle.profile.specs.Accepted.{few-transports}

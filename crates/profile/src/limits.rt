@@ -2,11 +2,9 @@
 ghost use mathlib.Core.Path.{_≡_};
 ghost use mathlib.Core.Bool.{true};
 ghost use Prim.Native.Nat.{_+_, _<_, _≤_};
-ghost use lib.Dec.{leb};
-ghost use lib.ListN.{length, getD};
-ghost use Rattle.base.specs.Range.{all};
+ghost use lib.ListN.{length};
 ghost use Rattle.profile.specs.Profile.{records, fieldsOk, limitsOk};
-ghost use Rattle.profile.specs.Limits.{counted, rowAt, allAtMost, Tally};
+ghost use Rattle.profile.specs.Limits.{counted, rowAt, allAtMost};
 use crate::view::byte;
 use crate::view::wide;
 

@@ -2,7 +2,7 @@
 -- fader positions. Written from MIDI 1.0 and document 01, with protocol.rs beside it. Definitions only.
 use Prim.Native.Nat.{ℕ, _+_, _-_, _*_, _/_, _%_}
 use mathlib.Core.List.{List, [], _∷_}
-use mathlib.Core.Bool.{Bool, true, false, _&&_}
+use mathlib.Core.Bool.{Bool, false, _&&_}
 use lib.IntN.{ℤ, pos, negℤ}
 use lib.Dec.{eqb, ltb, leb}
 use lib.ListN.{length, getD}

@@ -4,10 +4,8 @@ use crate::Lamps;
 use base::Place;
 ghost use mathlib.Core.Path.{_≡_};
 ghost use mathlib.Core.Bool.{true, false};
-ghost use mathlib.Core.List.{[]};
-ghost use Prim.Native.Nat.{ℕ, _+_, _≤_, _<_};
-ghost use lib.ListN.{replicate};
-ghost use Rattle.session.specs.Session.{lampsOf, noFlash, noneLit, wasMuted, noteMuted, noneNoted, soloTo, loadedBy, sceneAt, sceneTo, sceneUnknown, flashing as flashingOf};
+ghost use Prim.Native.Nat.{_≤_, _<_};
+ghost use Rattle.session.specs.Session.{noFlash, noneLit, wasMuted, noteMuted, noneNoted, soloTo, loadedBy, sceneAt, sceneTo, sceneUnknown, flashing as flashingOf};
 
 pub fn no_flash() -> Flash
     ensures { λ r. ⌜ r ≡ noFlash ⌝ }

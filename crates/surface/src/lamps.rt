@@ -13,7 +13,7 @@ ghost use Rattle.lookup.specs.Lookup.{positionsOf};
 ghost use Rattle.drivers.specs.Talk.{got};
 ghost use Rattle.drivers.specs.Shown.{shown};
 ghost use Rattle.definition.specs.Levels.{read as readOf, hasMute};
-ghost use Rattle.definition.specs.Lamps.{sendLevel, readAndSend, positionFor, mutedIf, mutedTo, pushFader, pushFaders, pushState};
+ghost use Rattle.definition.specs.Lamps.{sendLevel, readAndSend, positionFor, mutedIf, mutedTo, pushFader, pushState};
 ghost use Rattle.rig.specs.Seen.{rigIn};
 
 // Whether what is wired here is muted; one whose mute cannot be read is not.

@@ -1,5 +1,4 @@
 -- `bridge::in_control` meets its contract. Assumes nothing.
-use Prim.Native.Nat.{_+_, _*_, _<_}
 use native.Mathlib.Omega.{arith}
 use mathlib.Core.Path.{_≡_}
 use lib.ListN.{length}

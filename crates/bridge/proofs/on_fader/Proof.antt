@@ -1,5 +1,4 @@
 -- `bridge::on_fader` meets its contract. Assumes nothing.
-use Prim.Native.Nat.{_+_, _*_, _<_}
 use native.Mathlib.Omega.{arith}
 use mathlib.Core.Path.{sym, _∙_}
 use Rattle.bridge.proofs.Fit.{bank-low}

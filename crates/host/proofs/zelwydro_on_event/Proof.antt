@@ -47,7 +47,7 @@ use denote.Exit.{yes}
 use Rattle.session.specs.declared.Session.{Session}
 use Rattle.bridge.specs.declared.Stepped.{Stepped}
 use Rattle.host.specs.declared.Report.{Report}
-use Rattle.host.specs.Report.{reportOf, Reports}
+use Rattle.host.specs.Report.{reportOf}
 use denote.Enum.Laws as EL
 use Rattle.delivery.proofs.Outcome as O
 use Rattle.delivery.proofs.Outcome.Laws as O′

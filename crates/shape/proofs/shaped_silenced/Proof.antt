@@ -1,8 +1,5 @@
-use mathlib.Core.Path.{_≡_}
 use native.Mathlib.Omega.{arith}
-use lib.ListN.{length}
 use borrow.Author.Tests.{le-leb, lt-leb}
-use Rattle.base.specs.KeyedLaws as laws
 use Rattle.definition.specs.Shape.{shapedSilenced}
 use Rattle.session.specs.SessionLaws.{targets-seen}
 use borrow.Author.Needs.{needs}

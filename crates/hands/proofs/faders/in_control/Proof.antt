@@ -1,10 +1,6 @@
-use Rattle.hands.specs.Verdicts.{controlled}
 use borrow.Author.Needs.{needs}
 use Rattle.hands.proofs.faders.in_control.Statement.{statement}
 use Rattle.hands.proofs.faders.in_control.Tie as tie
-use Rattle.hands.proofs.faders.in_control.Reads as reads
-use Rattle.hands.proofs.faders.in_control.Lts as lts
-use Rattle.rig.proofs.here.destination.Reads as destination-reads
 
 -- src/faders.rt:38:49
 add-destination : tie.Need-add-destination

@@ -1,4 +1,3 @@
-use native.Mathlib.Omega.{arith}
 use Rattle.surface.proofs.Laws.{note-of, no-end, ends}
 use borrow.Author.Tests.{not-true, not-false}
 use borrow.Author.Needs.{needs}

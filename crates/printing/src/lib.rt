@@ -1,25 +1,29 @@
-// Text in a buffer: each function writes at `at` and returns where the text then ends.
+// Text in a buffer: each function writes at `at` and returns where the text then ends. The buffer then holds, up to there, what stood before `at` and
+// the text of `specs/Text`; nothing is said of what stands behind.
 //
-// Where the length depends on a number, the contract gives the most that it can be: a caller has to know that its buffer is long enough, not what
-// stands there.
+// Where the length depends on a number, the contract also gives the most that it can be, from which a caller knows that its buffer is long enough.
 mod lines;
 
 pub use lines::put_calls;
 pub use lines::put_counts;
+pub use lines::put_profile;
+pub use lines::put_refused;
 pub use lines::put_step;
+pub use lines::put_waiting;
 pub use lines::show;
-pub use lines::show_profile;
-pub use lines::show_refused;
-pub use lines::show_waiting;
-pub use lines::within;
 ghost use Prim.Native.Nat.{_+_, _*_, _≤_};
 ghost use mathlib.Core.Path.{_≡_};
-ghost use lib.ListN.{length};
+ghost use mathlib.Core.List.{[], _∷_, _++_};
+ghost use lib.ListN.{length, take};
+ghost use Rattle.drivers.specs.Shown.{messagesIn};
+ghost use Rattle.io.specs.Digits.{glyph};
+ghost use Rattle.printing.specs.Text.{decimal, bits, hex as hexOf, word, level, lineEnd, kindWord, callWords, callLine, messageLine, messageLines};
 use drivers::Call;
 
 pub fn put_byte(out: &mut [u8], at: usize, b: u8) -> usize
     requires { ⌜ at + 1 ≤ length (now out) ⌝ }
     ensures { λ r. ⌜ r ≡ at + 1 ⌝ }
+    ensures { λ r. ⌜ take r (now (out .exit)) ≡ take at (now (out .entry)) ++ (b ∷ []) ⌝ }
 {
     out[at] = b;
     at + 1
@@ -28,6 +32,7 @@ pub fn put_byte(out: &mut [u8], at: usize, b: u8) -> usize
 pub fn put(out: &mut [u8], at: usize, words: &[u8]) -> usize
     requires { ⌜ at + length (now words) ≤ length (now out) ⌝ }
     ensures { λ r. ⌜ r ≡ at + length (now (words .entry)) ⌝ }
+    ensures { λ r. ⌜ take r (now (out .exit)) ≡ take at (now (out .entry)) ++ now (words .entry) ⌝ }
 {
     let n = words.len();
     let mut i: usize = 0;
@@ -42,6 +47,7 @@ pub fn put(out: &mut [u8], at: usize, words: &[u8]) -> usize
 pub fn put_decimal(out: &mut [u8], at: usize, n: u64) -> usize
     requires { ⌜ at + 20 ≤ length (now out) ⌝ }
     ensures { λ r. ⌜ r ≤ at + 20 ⌝ }
+    ensures { λ r. ⌜ take r (now (out .exit)) ≡ take at (now (out .entry)) ++ decimal n ⌝ }
 {
     let mut digits = [0u8; 20];
     let k = io::decimal(n, &mut digits);
@@ -52,6 +58,7 @@ pub fn put_decimal(out: &mut [u8], at: usize, n: u64) -> usize
 pub fn put_bits(out: &mut [u8], at: usize, n: u64) -> usize
     requires { ⌜ at + 16 ≤ length (now out) ⌝ }
     ensures { λ r. ⌜ r ≤ at + 16 ⌝ }
+    ensures { λ r. ⌜ take r (now (out .exit)) ≡ take at (now (out .entry)) ++ bits n ⌝ }
 {
     let mut digits = [0u8; 16];
     let k = io::hex(n, 16, &mut digits);
@@ -60,6 +67,7 @@ pub fn put_bits(out: &mut [u8], at: usize, n: u64) -> usize
 
 fn digit(n: u8) -> u8
     requires { ⌜ n ≤ 15 ⌝ }
+    ensures { λ r. ⌜ r ≡ glyph n ⌝ }
 {
     if n < 10 {
         return 48 + n;
@@ -71,6 +79,7 @@ fn digit(n: u8) -> u8
 fn put_two(out: &mut [u8], at: usize, b: u8) -> usize
     requires { ⌜ at + 2 ≤ length (now out) ⌝ }
     ensures { λ r. ⌜ r ≡ at + 2 ⌝ }
+    ensures { λ r. ⌜ take r (now (out .exit)) ≡ take at (now (out .entry)) ++ hexOf (b ∷ []) ⌝ }
 {
     let a = put_byte(out, at, digit(b / 16));
     put_byte(out, a, digit(b % 16))
@@ -80,6 +89,7 @@ fn put_two(out: &mut [u8], at: usize, b: u8) -> usize
 pub fn put_hex(out: &mut [u8], at: usize, bytes: &[u8]) -> usize
     requires { ⌜ at + 2 * length (now bytes) ≤ length (now out) ⌝ }
     ensures { λ r. ⌜ r ≡ at + 2 * length (now (bytes .entry)) ⌝ }
+    ensures { λ r. ⌜ take r (now (out .exit)) ≡ take at (now (out .entry)) ++ hexOf (now (bytes .entry)) ⌝ }
 {
     let n = bytes.len();
     let mut i: usize = 0;
@@ -94,23 +104,26 @@ pub fn put_hex(out: &mut [u8], at: usize, bytes: &[u8]) -> usize
 pub fn put_word(out: &mut [u8], at: usize, n: u64) -> usize
     requires { ⌜ at + 21 ≤ length (now out) ⌝ }
     ensures { λ r. ⌜ r ≤ at + 21 ⌝ }
+    ensures { λ r. ⌜ take r (now (out .exit)) ≡ take at (now (out .entry)) ++ word n ⌝ }
 {
     let a = put_byte(out, at, 32);
     put_decimal(out, a, n)
 }
 
 // A space and sixteen hexadecimal digits.
-pub fn put_level(out: &mut [u8], at: usize, bits: u64) -> usize
+pub fn put_level(out: &mut [u8], at: usize, n: u64) -> usize
     requires { ⌜ at + 17 ≤ length (now out) ⌝ }
     ensures { λ r. ⌜ r ≤ at + 17 ⌝ }
+    ensures { λ r. ⌜ take r (now (out .exit)) ≡ take at (now (out .entry)) ++ level n ⌝ }
 {
     let a = put_byte(out, at, 32);
-    put_bits(out, a, bits)
+    put_bits(out, a, n)
 }
 
 pub fn put_end(out: &mut [u8], at: usize) -> usize
     requires { ⌜ at + 1 ≤ length (now out) ⌝ }
     ensures { λ r. ⌜ r ≡ at + 1 ⌝ }
+    ensures { λ r. ⌜ take r (now (out .exit)) ≡ take at (now (out .entry)) ++ lineEnd ⌝ }
 {
     put_byte(out, at, 10)
 }
@@ -120,6 +133,7 @@ pub fn put_end(out: &mut [u8], at: usize) -> usize
 fn put_kind(out: &mut [u8], at: usize, kind: u8) -> usize
     requires { ⌜ at + 7 ≤ length (now out) ⌝ }
     ensures { λ r. ⌜ r ≤ at + 7 ⌝ }
+    ensures { λ r. ⌜ take r (now (out .exit)) ≡ take at (now (out .entry)) ++ kindWord kind ⌝ }
 {
     match kind {
         0 => put(out, at, b"open"),
@@ -139,6 +153,7 @@ fn put_kind(out: &mut [u8], at: usize, kind: u8) -> usize
 fn put_words(out: &mut [u8], at: usize, c: Call) -> usize
     requires { ⌜ at + 63 ≤ length (now out) ⌝ }
     ensures { λ r. ⌜ r ≤ at + 63 ⌝ }
+    ensures { λ r. ⌜ take r (now (out .exit)) ≡ take at (now (out .entry)) ++ callWords c ⌝ }
 {
     let a = put_word(out, at, c.driver as u64);
     let b = put_word(out, a, c.name as u64);
@@ -149,6 +164,7 @@ fn put_words(out: &mut [u8], at: usize, c: Call) -> usize
 pub fn put_call(out: &mut [u8], at: usize, c: Call) -> usize
     requires { ⌜ at + 93 ≤ length (now out) ⌝ }
     ensures { λ r. ⌜ r ≤ at + 93 ⌝ }
+    ensures { λ r. ⌜ take r (now (out .exit)) ≡ take at (now (out .entry)) ++ callLine c ⌝ }
 {
     let a = put(out, at, b"call ");
     let b = put_kind(out, a, c.kind);
@@ -162,6 +178,7 @@ fn put_message(out: &mut [u8], at: usize, message: &[u8]) -> usize
     requires { ⌜ length (now message) ≡ 3 ⌝ }
     requires { ⌜ at + 15 ≤ length (now out) ⌝ }
     ensures { λ r. ⌜ r ≡ at + 15 ⌝ }
+    ensures { λ r. ⌜ take r (now (out .exit)) ≡ take at (now (out .entry)) ++ messageLine (now (message .entry)) ⌝ }
 {
     let a = put(out, at, b"message ");
     let b = put_hex(out, a, message);
@@ -173,6 +190,7 @@ pub fn put_messages(out: &mut [u8], at: usize, messages: &[u8], n: usize) -> usi
     requires { ⌜ 3 * n ≤ length (now messages) ⌝ }
     requires { ⌜ at + 15 * n ≤ length (now out) ⌝ }
     ensures { λ r. ⌜ r ≡ at + 15 * n ⌝ }
+    ensures { λ r. ⌜ take r (now (out .exit)) ≡ take at (now (out .entry)) ++ messageLines (messagesIn n (now (messages .entry))) ⌝ }
 {
     let mut a = at;
     let mut i: usize = 0;

@@ -1,25 +1,21 @@
 // What the programs write of an event, on standard output.
 ghost use Prim.Native.Nat.{_+_, _*_, _≤_};
-ghost use lib.ListN.{length};
+ghost use mathlib.Core.Path.{_≡_};
+ghost use mathlib.Core.List.{_++_};
+ghost use lib.ListN.{length, take};
+ghost use Rattle.drivers.specs.Shown.{callAt, callsIn};
+ghost use Rattle.printing.specs.Text.{callLines, stepWords, countWords, profileLine, refusedLine, waitingLines};
 use crate::put;
 use crate::put_call;
 use crate::put_end;
 use crate::put_word;
 use drivers::Call;
 
-// ── counts ──
-
-// A number, held to what there is room for.
-pub fn within(n: usize, most: usize) -> usize
-    ensures { λ r. ⌜ r ≤ most ⌝ }
-{
-    if n < most { n } else { most }
-}
-
 // ── calls out of a buffer ──
 
 fn call_at(calls: &[u8], i: usize) -> Call
     requires { ⌜ 16 * i + 16 ≤ length (now calls) ⌝ }
+    ensures { λ r. ⌜ r ≡ callAt (now (calls .entry)) (16 * i) ⌝ }
 {
     let at = 16 * i;
     Call {
@@ -36,6 +32,7 @@ pub fn put_calls(out: &mut [u8], at: usize, calls: &[u8], n: usize) -> usize
     requires { ⌜ 16 * n ≤ length (now calls) ⌝ }
     requires { ⌜ at + 93 * n ≤ length (now out) ⌝ }
     ensures { λ r. ⌜ r ≤ at + 93 * n ⌝ }
+    ensures { λ r. ⌜ take r (now (out .exit)) ≡ take at (now (out .entry)) ++ callLines (callsIn n (now (calls .entry))) ⌝ }
 {
     let mut a = at;
     let mut i: usize = 0;
@@ -53,6 +50,7 @@ pub fn put_calls(out: &mut [u8], at: usize, calls: &[u8], n: usize) -> usize
 pub fn put_step(out: &mut [u8], what: &[u8], n: usize) -> usize
     requires { ⌜ length (now what) + 21 ≤ length (now out) ⌝ }
     ensures { λ r. ⌜ r ≤ length (now (what .entry)) + 21 ⌝ }
+    ensures { λ r. ⌜ take r (now (out .exit)) ≡ stepWords (now (what .entry)) n ⌝ }
 {
     let a = put(out, 0, what);
     put_word(out, a, n as u64)
@@ -62,6 +60,7 @@ pub fn put_step(out: &mut [u8], what: &[u8], n: usize) -> usize
 pub fn put_counts(out: &mut [u8], at: usize, sent: usize, asked: usize) -> usize
     requires { ⌜ at + 62 ≤ length (now out) ⌝ }
     ensures { λ r. ⌜ r ≤ at + 62 ⌝ }
+    ensures { λ r. ⌜ take r (now (out .exit)) ≡ take at (now (out .entry)) ++ countWords sent asked ⌝ }
 {
     let a = put(out, at, b" done messages");
     let b = put_word(out, a, sent as u64);
@@ -76,30 +75,34 @@ pub fn show(out: &[u8], n: usize)
     io::write_all(libc::STDOUT_FILENO, &out[..n]);
 }
 
-pub fn show_profile(why: u8) {
-    let mut out = [0u8; 64];
-    let a = put(&mut out, 0, b"profile refused");
-    let b = put_word(&mut out, a, why as u64);
-    let c = put_end(&mut out, b);
-    show(&out, c);
+pub fn put_profile(out: &mut [u8], why: u8) -> usize
+    requires { ⌜ 37 ≤ length (now out) ⌝ }
+    ensures { λ r. ⌜ r ≤ 37 ⌝ }
+    ensures { λ r. ⌜ take r (now (out .exit)) ≡ profileLine why ⌝ }
+{
+    let a = put(out, 0, b"profile refused");
+    let b = put_word(out, a, why as u64);
+    put_end(out, b)
 }
 
 // A step is an event or a restore.
-pub fn show_refused(what: &[u8], n: usize, why: u8)
-    requires { ⌜ length (now what) ≤ 7 ⌝ }
+pub fn put_refused(out: &mut [u8], what: &[u8], n: usize, why: u8) -> usize
+    requires { ⌜ length (now what) + 51 ≤ length (now out) ⌝ }
+    ensures { λ r. ⌜ r ≤ length (now (what .entry)) + 51 ⌝ }
+    ensures { λ r. ⌜ take r (now (out .exit)) ≡ refusedLine (now (what .entry)) n why ⌝ }
 {
-    let mut out = [0u8; 64];
-    let a = put_step(&mut out, what, n);
-    let b = put(&mut out, a, b" refused");
-    let c = put_word(&mut out, b, why as u64);
-    let d = put_end(&mut out, c);
-    show(&out, d);
+    let a = put_step(out, what, n);
+    let b = put(out, a, b" refused");
+    let c = put_word(out, b, why as u64);
+    put_end(out, c)
 }
 
-pub fn show_waiting(n: usize, c: Call) {
-    let mut out = [0u8; 128];
-    let a = put_step(&mut out, b"event", n);
-    let b = put(&mut out, a, b" waiting\n");
-    let d = put_call(&mut out, b, c);
-    show(&out, d);
+pub fn put_waiting(out: &mut [u8], n: usize, c: Call) -> usize
+    requires { ⌜ 128 ≤ length (now out) ⌝ }
+    ensures { λ r. ⌜ r ≤ 128 ⌝ }
+    ensures { λ r. ⌜ take r (now (out .exit)) ≡ waitingLines n c ⌝ }
+{
+    let a = put_step(out, b"event", n);
+    let b = put(out, a, b" waiting\n");
+    put_call(out, b, c)
 }

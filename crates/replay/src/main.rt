@@ -7,6 +7,7 @@
 mod show;
 mod view;
 
+ghost use Prim.Native.Nat.{_≤_};
 ghost use mathlib.Core.Bool.{true};
 ghost use mathlib.Core.Path.{_≡_};
 ghost use lib.ListN.{length};
@@ -58,12 +59,19 @@ fn number() -> Got {
     }
 }
 
+// A number, held to what there is room for.
+fn within(n: usize, most: usize) -> usize
+    ensures { λ r. ⌜ r ≤ most ⌝ }
+{
+    if n < most { n } else { most }
+}
+
 // A length and as many bytes, where there is room for them.
 fn part(room: &mut [u8]) -> Got
     ensures { λ r. ⌜ Counts (r .n) (now (room .exit)) ⌝ }
 {
     let asked = number();
-    let most = printing::within(asked.n, room.len());
+    let most = within(asked.n, room.len());
     let n = io::read_full(STDIN_FILENO, &mut room[..most]);
     Got {
         there: asked.there & (n == asked.n),
@@ -117,8 +125,8 @@ fn one_event(
 {
     let mut messages = [0u8; 306];
     let mut calls = [0u8; 5392];
-    let m = printing::within(room, 306);
-    let c = printing::within(space, 5392);
+    let m = within(room, 306);
+    let c = within(space, 5392);
     let r = bridge::step(
         s,
         profile,
@@ -237,7 +245,7 @@ fn one_case(dump: bool) -> bool {
     let end = p.n;
     let why = profile::examine(&profile[..end]);
     if why != 0 {
-        printing::show_profile(why);
+        show::profile(why);
         return pass_steps(steps.n);
     }
     all_steps(dump, steps.n, &profile[..end])

@@ -4,12 +4,34 @@ ghost use mathlib.Core.Path.{_≡_};
 ghost use lib.ListN.{length};
 ghost use Rattle.bridge.specs.Bridge.{Few};
 use delivery::Outcome;
+use drivers::Call;
 
 pub fn case(id: usize) {
     let mut out = [0u8; 64];
     let a = printing::put_step(&mut out, b"case", id);
     let b = printing::put_end(&mut out, a);
     printing::show(&out, b);
+}
+
+pub fn profile(why: u8) {
+    let mut out = [0u8; 64];
+    let n = printing::put_profile(&mut out, why);
+    printing::show(&out, n);
+}
+
+// A step is an event or a restore.
+fn refused(what: &[u8], n: usize, why: u8)
+    requires { ⌜ length (now what) ≤ 7 ⌝ }
+{
+    let mut out = [0u8; 64];
+    let a = printing::put_refused(&mut out, what, n, why);
+    printing::show(&out, a);
+}
+
+fn waiting(n: usize, c: Call) {
+    let mut out = [0u8; 128];
+    let a = printing::put_waiting(&mut out, n, c);
+    printing::show(&out, a);
 }
 
 // How many answers were used, whether the event saved, and the line's end.
@@ -61,11 +83,11 @@ pub fn outcome(n: usize, outcome: Outcome, messages: &[u8; 306], calls: &[u8; 53
             saved
         }
         Outcome::Refused(why) => {
-            printing::show_refused(b"event", n, why);
+            refused(b"event", n, why);
             false
         }
         Outcome::Waiting(c) => {
-            printing::show_waiting(n, c);
+            waiting(n, c);
             false
         }
     }
@@ -93,7 +115,7 @@ pub fn saved(bytes: &[u8; 136], count: usize)
 
 pub fn restored(n: usize, why: u8) {
     if why != 0 {
-        printing::show_refused(b"restore", n, why);
+        refused(b"restore", n, why);
         return;
     }
     let mut out = [0u8; 64];

@@ -1,17 +1,20 @@
 // The program of document 01: profile.bin, events.bin and answers.bin, the first 65,536 bytes of each, and what becomes of each event.
 //
-// The program is proved by what the bridge promises of an outcome's counts: its messages and calls have room in the text, and the answers that it used
-// are among those that it was handed.
+// What is written of an event is proved to be the definition's text of it (`specs/Said`); that the system writes what it is handed is not.
 ghost use Prim.Native.Nat.{_+_, _*_, _≤_, _<_};
 ghost use mathlib.Core.Path.{_≡_};
-ghost use lib.ListN.{length};
+ghost use lib.ListN.{length, take};
 ghost use Rattle.io.specs.Counts.{Counts};
+ghost use Rattle.definition.specs.Step.{seen};
+ghost use Rattle.definition.specs.Whole.{whole};
 ghost use Rattle.bridge.specs.Bridge.{Few, usedIn};
+ghost use Rattle.run.specs.Said.{doneText, outcomeText, eventText, goesOn};
 use delivery::Outcome;
 use session::Session;
 
-// Whether the next event may follow, and how many answers this one used.
+// Where the text of an event ends, whether the next event may follow, and how many answers this one used.
 struct Said {
+    text: usize,
     goes: bool,
     used: usize,
 }
@@ -39,27 +42,39 @@ fn load(path: &[u8], room: &mut [u8]) -> usize
 
 // ── what became of an event ──
 
-// A buffer for 89 bytes of the first line, 102 messages of 15 and 337 calls of 93.
-fn show_done(n: usize, messages: &[u8], sent: usize, calls: &[u8], asked: usize)
+// The most that there is to write: 89 bytes of the first line, 102 messages of 15 and 337 calls of 93.
+fn put_done(
+    out: &mut [u8],
+    n: usize,
+    messages: &[u8],
+    sent: usize,
+    calls: &[u8],
+    asked: usize,
+) -> usize
+    requires { ⌜ 32960 ≤ length (now out) ⌝ }
     requires { ⌜ 3 * sent ≤ length (now messages) ⌝ }
     requires { ⌜ 16 * asked ≤ length (now calls) ⌝ }
     requires { ⌜ sent ≤ 102 ⌝ }
     requires { ⌜ asked ≤ 337 ⌝ }
+    ensures { λ r. ⌜ r ≤ 32960 ⌝ }
+    ensures { λ r. ⌜ take r (now (out .exit)) ≡ doneText n sent asked (now (messages .entry)) (now (calls .entry)) ⌝ }
 {
-    let mut out = [0u8; 32960];
-    let a = printing::put_step(&mut out, b"event", n);
-    let b = printing::put_counts(&mut out, a, sent, asked);
-    let c = printing::put_end(&mut out, b);
-    let d = printing::put_messages(&mut out, c, messages, sent);
-    let e = printing::put_calls(&mut out, d, calls, asked);
-    printing::show(&out, e);
+    let a = printing::put_step(out, b"event", n);
+    let b = printing::put_counts(out, a, sent, asked);
+    let c = printing::put_end(out, b);
+    let d = printing::put_messages(out, c, messages, sent);
+    printing::put_calls(out, d, calls, asked)
 }
 
 // Says what became of event n.
-fn show_outcome(n: usize, outcome: Outcome, messages: &[u8], calls: &[u8]) -> Said
+fn put_outcome(out: &mut [u8], n: usize, outcome: Outcome, messages: &[u8], calls: &[u8]) -> Said
+    requires { ⌜ 32960 ≤ length (now out) ⌝ }
     requires { ⌜ 306 ≤ length (now messages) ⌝ }
     requires { ⌜ 5392 ≤ length (now calls) ⌝ }
     requires { ⌜ Few outcome ⌝ }
+    ensures { λ r. ⌜ r .text ≤ 32960 ⌝ }
+    ensures { λ r. ⌜ take (r .text) (now (out .exit)) ≡ outcomeText n outcome (now (messages .entry)) (now (calls .entry)) ⌝ }
+    ensures { λ r. ⌜ r .goes ≡ goesOn outcome ⌝ }
     ensures { λ r. ⌜ r .used ≡ usedIn outcome ⌝ }
 {
     match outcome {
@@ -69,22 +84,25 @@ fn show_outcome(n: usize, outcome: Outcome, messages: &[u8], calls: &[u8]) -> Sa
             used,
             saved: _,
         } => {
-            show_done(n, messages, sent, calls, asked);
+            let t = put_done(out, n, messages, sent, calls, asked);
             Said {
+                text: t,
                 goes: true,
                 used: used,
             }
         }
         Outcome::Refused(why) => {
-            printing::show_refused(b"event", n, why);
+            let t = printing::put_refused(out, b"event", n, why);
             Said {
+                text: t,
                 goes: false,
                 used: 0,
             }
         }
         Outcome::Waiting(c) => {
-            printing::show_waiting(n, c);
+            let t = printing::put_waiting(out, n, c);
             Said {
+                text: t,
                 goes: false,
                 used: 0,
             }
@@ -93,15 +111,26 @@ fn show_outcome(n: usize, outcome: Outcome, messages: &[u8], calls: &[u8]) -> Sa
 }
 
 // Runs event n.
-fn one(n: usize, session: Session, profile: &[u8], event: &[u8], answers: &[u8]) -> Next
+fn one(
+    out: &mut [u8],
+    n: usize,
+    session: Session,
+    profile: &[u8],
+    event: &[u8],
+    answers: &[u8],
+) -> Next
+    requires { ⌜ 32960 ≤ length (now out) ⌝ }
+    ensures { λ r. ⌜ r .said .text ≤ 32960 ⌝ }
     ensures { λ r. ⌜ 16 * r .said .used ≤ length (now (answers .entry)) ⌝ }
+    ensures { λ r. ⌜ take (r .said .text) (now (out .exit)) ≡ eventText n ((whole (now (profile .entry)) session (now (event .entry)) (now (answers .entry)) 306 5392) .ended) ⌝ }
+    ensures { λ r. ⌜ seen (now (profile .entry)) (r .session) ≡ (whole (now (profile .entry)) session (now (event .entry)) (now (answers .entry)) 306 5392) .kept ⌝ }
 {
     let mut messages = [0u8; 306];
     let mut calls = [0u8; 5392];
     let r = bridge::step(session, profile, event, answers, &mut messages, &mut calls);
     let s = r.session;
     let o = r.outcome;
-    let t = show_outcome(n, o, &messages, &calls);
+    let t = put_outcome(out, n, o, &messages, &calls);
     Next {
         said: t,
         session: s,
@@ -122,14 +151,16 @@ fn end_of(from: usize, length: usize) -> usize
 
 // Runs the events in turn, each on the answers that those before it left.
 fn all(profile: &[u8], events: &[u8], answers: &[u8]) {
+    let mut out = [0u8; 32960];
     let mut s = session::fresh();
     let mut from: usize = 0;
     let mut read: usize = 0;
     let mut n: usize = 0;
     while from < events.len() {
         let to = end_of(from, events.len());
-        let r = one(n, s, profile, &events[from..to], &answers[read..]);
+        let r = one(&mut out, n, s, profile, &events[from..to], &answers[read..]);
         let t = r.said;
+        printing::show(&out, t.text);
         if !t.goes {
             return;
         }
@@ -149,7 +180,9 @@ fn main() {
     let a = load(b"answers.bin", &mut answers);
     let why = profile::examine(&profile[..p]);
     if why != 0 {
-        printing::show_profile(why);
+        let mut out = [0u8; 64];
+        let n = printing::put_profile(&mut out, why);
+        printing::show(&out, n);
         return;
     }
     all(&profile[..p], &events[..e], &answers[..a]);

@@ -1,19 +1,24 @@
 -- `printing::put` meets its contract. Assumes nothing.
-use Prim.Native.Nat.{_≤_, _-_}
-use mathlib.Core.Path.{_≡_}
-use lib.ListN.{length}
+use Prim.Native.Nat.{_≤_, _-_, _+_}
+use mathlib.Core.List.{_++_}
+use mathlib.Core.Path.{_≡_, refl}
+use native.Mathlib.Omega.{arith}
+use lib.ListN.{length, take}
 use borrow.Author.Needs.{needs}
+use Rattle.printing.proofs.Laws.{none-yet, one-more, all-of}
 use Rattle.printing.proofs.put.Statement.{statement}
 use Rattle.printing.proofs.put.Tie as tie
 
 abbrev Inv-loop : tie.InvT-loop
-Inv-loop out₀ at words n i₀ out i = (i ≤ n) × (length out ≡ length out₀)
+Inv-loop out₀ at words n i₀ out i = (i ≤ n) × (length out ≡ length out₀) × (take (at + i) out ≡ take at out₀ ++ take i words)
 
 abbrev μ-loop : tie.MeasureT-loop
 μ-loop out₀ at words n i₀ out i = n - i
 
 loop-holds : tie.Need-loop-holds Inv-loop μ-loop
-loop-holds c = search needs
+loop-holds c =
+    let a = c .args in
+    (omega arith, refl, none-yet (take (a .at) (a .out .now)) (a .out .now) (a .at) refl)
 
 shared-slice-read-out : tie.Need-shared-slice-read-out Inv-loop μ-loop
 shared-slice-read-out c = search needs
@@ -31,7 +36,10 @@ loop-less : tie.Need-loop-less Inv-loop μ-loop
 loop-less c = search needs
 
 loop-again : tie.Need-loop-again Inv-loop μ-loop
-loop-again c = search needs
+loop-again c =
+    let b = c .before .before in
+    let a = b .before .args in
+    (search needs, search needs, one-more (take (a .at) (a .out .now)) (a .words .now) (b .loop .out) (a .at) (b .loop .i) (omega (arith, b .loop .inv .1, b .before .pre, c .before .loop-test .taken)) (c .before .loop-test .taken) (b .loop .inv .2))
 
 add-result : tie.Need-add-result Inv-loop μ-loop
 add-result c = search needs
@@ -40,7 +48,10 @@ same-length : tie.Need-same-length Inv-loop μ-loop
 same-length c = search needs
 
 returns : tie.Need-returns Inv-loop μ-loop
-returns c = search needs
+returns c =
+    let b = c .before in
+    let a = b .before .args in
+    (refl, all-of (λ l. l) (λ i. a .at + i) (take (a .at) (a .out .now)) (a .words .now) (b .loop .out) (b .loop .i) (b .loop .inv .0) (c .loop-test .left) (b .loop .inv .2))
 
 pub put-spec : {M : Type 1} → statement M
 put-spec =

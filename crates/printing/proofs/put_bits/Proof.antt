@@ -1,7 +1,7 @@
 -- `printing::put_bits` meets its contract. Assumes nothing.
 use native.Mathlib.Omega.{arith}
-use Rattle.printing.proofs.Laws.{hex-most}
 use borrow.Author.Needs.{needs}
+use Rattle.printing.proofs.Laws.{hex-most, bits-are}
 use Rattle.printing.proofs.put_bits.Statement.{statement}
 use Rattle.printing.proofs.put_bits.Tie as tie
 
@@ -21,7 +21,7 @@ same-length : tie.Need-same-length
 same-length c = search needs
 
 returns : tie.Need-returns
-returns c = search (needs, hex-most (c .before .before .before .before .before .before .before .before .args .n) (c .before .before .before .before .before .hex .result) (omega (arith, c .before .before .before .before .before .before .before .before .fits .n)) (c .before .before .before .before .before .hex .ensures .1 .0))
+returns c = (search (needs, hex-most (c .before .before .before .before .before .before .before .before .args .n) (c .before .before .before .before .before .hex .result) (omega (arith, c .before .before .before .before .before .before .before .before .fits .n)) (c .before .before .before .before .before .hex .ensures .1 .0)), rw (c .before .before .put .ensures .1, c .before .before .before .before .before .hex .ensures .1 .1, bits-are (c .before .before .before .before .before .before .before .before .args .n) (c .before .before .before .before .before .hex .result) (omega (arith, c .before .before .before .before .before .before .before .before .fits .n)) (c .before .before .before .before .before .hex .ensures .1 .0)))
 
 pub put-bits-spec : {M : Type 1} → statement M
 put-bits-spec =

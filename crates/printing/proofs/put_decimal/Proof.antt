@@ -1,7 +1,7 @@
 -- `printing::put_decimal` meets its contract. Assumes nothing.
 use native.Mathlib.Omega.{arith}
-use Rattle.printing.proofs.Laws.{decimal-most}
 use borrow.Author.Needs.{needs}
+use Rattle.printing.proofs.Laws.{decimal-most, decimal-is}
 use Rattle.printing.proofs.put_decimal.Statement.{statement}
 use Rattle.printing.proofs.put_decimal.Tie as tie
 
@@ -21,7 +21,7 @@ same-length : tie.Need-same-length
 same-length c = search needs
 
 returns : tie.Need-returns
-returns c = search (needs, decimal-most (c .before .before .before .before .before .before .before .before .args .n) (c .before .before .before .before .before .decimal .result) (omega (arith, c .before .before .before .before .before .before .before .before .fits .n)) (c .before .before .before .before .before .decimal .ensures .1 .0))
+returns c = (search (needs, decimal-most (c .before .before .before .before .before .before .before .before .args .n) (c .before .before .before .before .before .decimal .result) (omega (arith, c .before .before .before .before .before .before .before .before .fits .n)) (c .before .before .before .before .before .decimal .ensures .1 .0)), rw (c .before .before .put .ensures .1, c .before .before .before .before .before .decimal .ensures .1 .1, decimal-is (c .before .before .before .before .before .before .before .before .args .n) (c .before .before .before .before .before .decimal .result) (omega (arith, c .before .before .before .before .before .before .before .before .fits .n)) (c .before .before .before .before .before .decimal .ensures .1 .0)))
 
 pub put-decimal-spec : {M : Type 1} → statement M
 put-decimal-spec =

@@ -1,19 +1,26 @@
 -- `printing::put_hex` meets its contract. Assumes nothing.
-use Prim.Native.Nat.{_≤_, _-_}
-use mathlib.Core.Path.{_≡_}
-use lib.ListN.{length}
+use Prim.Native.Nat.{_≤_, _-_, _+_, _*_}
+use mathlib.Core.List.{_++_}
+use mathlib.Core.Path.{_≡_, refl}
+use native.Mathlib.Omega.{arith}
+use lib.ListN.{length, take}
 use borrow.Author.Needs.{needs}
+use Rattle.printing.specs.Text.{hex}
+use Rattle.printing.proofs.Laws.{none-yet, byte-more, at-end, all-of}
 use Rattle.printing.proofs.put_hex.Statement.{statement}
 use Rattle.printing.proofs.put_hex.Tie as tie
 
 abbrev Inv-loop : tie.InvT-loop
-Inv-loop out₀ at bytes n i₀ out i = (i ≤ n) × (length out ≡ length out₀)
+Inv-loop out₀ at bytes n i₀ out i = (i ≤ n) × (length out ≡ length out₀) × (take (at + 2 * i) out ≡ take at out₀ ++ hex (take i bytes))
 
 abbrev μ-loop : tie.MeasureT-loop
 μ-loop out₀ at bytes n i₀ out i = n - i
 
 loop-holds : tie.Need-loop-holds Inv-loop μ-loop
-loop-holds c = search needs
+unfolding hex
+loop-holds c =
+    let a = c .before .before .args in
+    (omega arith, refl, none-yet (take (a .at) (a .out .now)) (a .out .now) (a .at) refl)
 
 mul-put-two : tie.Need-mul-put-two Inv-loop μ-loop
 mul-put-two c = search needs
@@ -34,7 +41,11 @@ loop-less : tie.Need-loop-less Inv-loop μ-loop
 loop-less c = search needs
 
 loop-again : tie.Need-loop-again Inv-loop μ-loop
-loop-again c = search needs
+loop-again c =
+    let b = c .before .before .before .before .before .before in
+    let a = c .before .before .before .before .before .before .before .before .before .args in
+    let p = c .before .before .put-two in
+    (search needs, search needs, at-end (p .last .0) (p .result) (a .at + 2 * (b .loop .i + 1)) (omega (arith, p .ensures .0)) (byte-more (take (a .at) (a .out .now)) (a .bytes .now) (b .loop .i) (c .before .before .before .before .before .loop-test .taken) (b .loop .inv .2) (p .ensures .1)))
 
 mul-result : tie.Need-mul-result Inv-loop μ-loop
 mul-result c = search needs
@@ -46,7 +57,10 @@ same-length : tie.Need-same-length Inv-loop μ-loop
 same-length c = search needs
 
 returns : tie.Need-returns Inv-loop μ-loop
-returns c = search needs
+returns c =
+    let b = c .before in
+    let a = c .before .before .before .before .args in
+    (refl, all-of hex (λ i. a .at + 2 * i) (take (a .at) (a .out .now)) (a .bytes .now) (b .loop .out) (b .loop .i) (b .loop .inv .0) (c .loop-test .left) (b .loop .inv .2))
 
 pub put-hex-spec : {M : Type 1} → statement M
 put-hex-spec =

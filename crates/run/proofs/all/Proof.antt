@@ -1,6 +1,7 @@
 -- `run::all` meets its contract. Assumes nothing.
 use Prim.Native.Nat.{ℕ, _^_, _+_, _-_, _≤_, _<_}
 use mathlib.Core.List.{List}
+use mathlib.Core.Path.{_≡_}
 use native.Mathlib.Omega.{arith}
 use lib.ListN.{length, take, drop, length-take, length-drop}
 use mir.Syntax.{w64}
@@ -20,10 +21,10 @@ part-fits : (xs : List ℕ) (k n : ℕ) → length xs < 2 ^ 64 → k ≤ length 
 part-fits xs k n l h m = record { fits = omega (arith, rest xs k n h m) }
 
 abbrev Inv-loop : tie.InvT-loop
-Inv-loop profile events answers s₀ from₀ read₀ n₀ s from read n = (from ≤ length events) × (read ≤ length answers) × (n ≤ from)
+Inv-loop profile events answers out₀ s₀ from₀ read₀ n₀ out s from read n = (from ≤ length events) × (read ≤ length answers) × (n ≤ from) × (length out ≡ 32960)
 
 abbrev μ-loop : tie.MeasureT-loop
-μ-loop profile events answers s₀ from₀ read₀ n₀ s from read n = length events - from
+μ-loop profile events answers out₀ s₀ from₀ read₀ n₀ out s from read n = length events - from
 
 fresh-requires : tie.Need-fresh-requires Inv-loop μ-loop
 fresh-requires c κs = search needs
@@ -33,6 +34,9 @@ loop-holds c = search needs
 
 end-of-requires : tie.Need-end-of-requires Inv-loop μ-loop
 end-of-requires c κs = search needs
+
+slice-aggregate-one : tie.Need-slice-aggregate-one Inv-loop μ-loop
+slice-aggregate-one c = search needs
 
 sub-one : tie.Need-sub-one Inv-loop μ-loop
 sub-one c = search needs
@@ -55,22 +59,28 @@ part-one-end-2 c = search needs
 one-requires : tie.Need-one-requires Inv-loop μ-loop
 one-requires c κs = search needs
 
+slice-aggregate-show : tie.Need-slice-aggregate-show Inv-loop μ-loop
+slice-aggregate-show c = search needs
+
+show-requires : tie.Need-show-requires Inv-loop μ-loop
+show-requires c κs = search needs
+
 returns : tie.Need-returns Inv-loop μ-loop
 returns c = search needs
 
 mul-read : tie.Need-mul-read Inv-loop μ-loop
 mul-read c =
-    let b = c .before .before .before .before .before in
-    let l = b .before .before .before .before .before in
-    let a = l .before .before .before .before .before in
-    part-fits (a .args .answers .now) (l .loop .read) _ (a .good .1 .1 .0 .0) (l .loop .inv .1) (b .one .ensures)
+    let b = c .before .before .before .before .before .before .before .before in
+    let l = c .before .before .before .before .before .before .before .before .before .before .before .before .before .before in
+    let a = c .before .before .before .before .before .before .before .before .before .before .before .before .before .before .before .before .before .before .before in
+    part-fits (a .args .answers .now) (l .loop .read) _ (a .good .1 .1 .0 .0) (l .loop .inv .1) (b .one .ensures .1 .0)
 
 add-read : tie.Need-add-read Inv-loop μ-loop
 add-read c =
-    let b = c .before .before .before .before .before in
-    let l = b .before .before .before .before .before in
-    let a = l .before .before .before .before .before in
-    omega (arith, rest (a .args .answers .now) (l .loop .read) _ (l .loop .inv .1) (b .one .ensures), a .good .1 .1 .0 .0)
+    let b = c .before .before .before .before .before .before .before .before in
+    let l = c .before .before .before .before .before .before .before .before .before .before .before .before .before .before in
+    let a = c .before .before .before .before .before .before .before .before .before .before .before .before .before .before .before .before .before .before .before in
+    omega (arith, rest (a .args .answers .now) (l .loop .read) _ (l .loop .inv .1) (b .one .ensures .1 .0), a .good .1 .1 .0 .0)
 
 add-n : tie.Need-add-n Inv-loop μ-loop
 add-n c = search needs
@@ -80,10 +90,10 @@ loop-less c = search needs
 
 loop-again : tie.Need-loop-again Inv-loop μ-loop
 loop-again c =
-    let b = c .before .before .before .before .before in
-    let l = b .before .before .before .before .before in
-    let a = l .before .before .before .before .before in
-    search (needs, rest (a .args .answers .now) (l .loop .read) _ (l .loop .inv .1) (b .one .ensures))
+    let b = c .before .before .before .before .before .before .before .before in
+    let l = c .before .before .before .before .before .before .before .before .before .before .before .before .before .before in
+    let a = c .before .before .before .before .before .before .before .before .before .before .before .before .before .before .before .before .before .before .before in
+    search (needs, rest (a .args .answers .now) (l .loop .read) _ (l .loop .inv .1) (b .one .ensures .1 .0))
 
 returns-2 : tie.Need-returns-2 Inv-loop μ-loop
 returns-2 c = search needs
@@ -97,6 +107,7 @@ all-spec =
     fresh-requires
     loop-holds
     end-of-requires
+    slice-aggregate-one
     sub-one
     part-one-start
     part-one-end
@@ -104,6 +115,8 @@ all-spec =
     part-one-start-2
     part-one-end-2
     one-requires
+    slice-aggregate-show
+    show-requires
     returns
     mul-read
     add-read

@@ -13,17 +13,23 @@ slice-aggregate-step-2 c = search needs
 step-requires : tie.Need-step-requires
 step-requires c κs = search needs
 
-slice-aggregate-show-outcome : tie.Need-slice-aggregate-show-outcome
-slice-aggregate-show-outcome c = search needs
+slice-aggregate-put-outcome : tie.Need-slice-aggregate-put-outcome
+slice-aggregate-put-outcome c = search needs
 
-slice-aggregate-show-outcome-2 : tie.Need-slice-aggregate-show-outcome-2
-slice-aggregate-show-outcome-2 c = search needs
+slice-aggregate-put-outcome-2 : tie.Need-slice-aggregate-put-outcome-2
+slice-aggregate-put-outcome-2 c = search needs
 
-show-outcome-requires : tie.Need-show-outcome-requires
-show-outcome-requires c κs = (search needs, (search needs, delivers-few _ _ _ _ _ _ _ _ (c .before .before .before .before .before .step .ensures)))
+put-outcome-requires : tie.Need-put-outcome-requires
+put-outcome-requires c κs = (search needs, (search needs, (search needs, delivers-few _ _ _ _ _ _ _ _ (c .before .before .before .before .before .before .step .ensures))))
+
+same-length : tie.Need-same-length
+same-length c = search needs
 
 returns : tie.Need-returns
-returns c = rw (c .show-outcome .ensures) (delivers-used _ _ _ _ _ _ _ _ _ _ _ (c .before .before .before .before .before .before .step .ensures))
+returns c =
+    let d = c .before .before .before .before .before .before .before .before .before .step .ensures in
+    let o = c .before .before .put-outcome .ensures in
+    (o .0, (rw (o .1 .1 .1) (delivers-used _ _ _ _ _ _ _ _ _ _ _ d), (rw (o .1 .0, d .outcome, d .messages, d .calls), d .session)))
 
 pub one-spec : {M : Type 1} → statement M
 one-spec =
@@ -32,7 +38,8 @@ one-spec =
     slice-aggregate-step
     slice-aggregate-step-2
     step-requires
-    slice-aggregate-show-outcome
-    slice-aggregate-show-outcome-2
-    show-outcome-requires
+    slice-aggregate-put-outcome
+    slice-aggregate-put-outcome-2
+    put-outcome-requires
+    same-length
     returns)

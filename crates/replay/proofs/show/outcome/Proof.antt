@@ -15,17 +15,17 @@ done-requires c κs = subst (λ (o : Outcome). Few o) (c .before .outcome .given
 enum-known-outcome-2 : tie.Need-enum-known-outcome-2
 enum-known-outcome-2 c = search needs
 
-slice-aggregate-show-refused : tie.Need-slice-aggregate-show-refused
-slice-aggregate-show-refused c = search needs
+slice-aggregate-refused : tie.Need-slice-aggregate-refused
+slice-aggregate-refused c = search needs
 
-show-refused-requires : tie.Need-show-refused-requires
-show-refused-requires c κs = search needs
+refused-requires : tie.Need-refused-requires
+refused-requires c κs = search needs
 
 enum-known-outcome-3 : tie.Need-enum-known-outcome-3
 enum-known-outcome-3 c = search needs
 
-show-waiting-requires : tie.Need-show-waiting-requires
-show-waiting-requires c κs = search needs
+waiting-requires : tie.Need-waiting-requires
+waiting-requires c κs = search needs
 
 returns : tie.Need-returns
 returns c = search needs
@@ -43,10 +43,10 @@ outcome-spec =
     enum-known-outcome
     done-requires
     enum-known-outcome-2
-    slice-aggregate-show-refused
-    show-refused-requires
+    slice-aggregate-refused
+    refused-requires
     enum-known-outcome-3
-    show-waiting-requires
+    waiting-requires
     returns
     returns-2
     returns-3)

@@ -1,0 +1,10 @@
+-- A text by its codes. Definitions only.
+use Prim.Native.Nat.{ℕ}
+use Prim.Native.Char.{code}
+use Prim.Native.String.{String, [], _∷_}
+use mathlib.Core.List.{List, [] as none, _∷_ as _and_}
+
+-- the codes of a text of ASCII, one byte each
+abbrev pub ascii : String → List ℕ
+ascii [] = none
+ascii (c ∷ s) = code c and ascii s

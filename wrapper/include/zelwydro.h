@@ -8,6 +8,8 @@
  * - Nothing that a function writes may overlap anything else that it is handed.
  * - A session must be one that the bridge made: zelwydro_fresh, zelwydro_restore or an event left it there. In one of other origin each bool must be 0
  *   or 1, or what happens is undefined. All else that can be wrong with a session is refused (8).
+ * - A session belongs to one profile: with another one begin with a fresh session, and restore. Turns that wait are kept by the number of their
+ *   encoder's record, so that another profile may take them for another encoder's.
  * - There is no state but the session: two threads may call at the same time, if no session or buffer is used by both.
  *
  * Linked with libhost.a, for 64-bit processors of the x86 family.

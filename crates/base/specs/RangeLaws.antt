@@ -56,6 +56,12 @@ module _ (p : ℕ → Bool) where
   all-at (suc n) k h l =
       ⊎-elim (λ e. rw e (and-right (all n p) (p n) h)) (λ lt. all-at n k (and-left (all n p) (p n) h) lt) (eq-or-lt-of-le (le-of-suc-le-suc l))
 
+  -- and what is true of each is true of all
+  pub all-each : (n : ℕ) → ((k : ℕ) → k < n → p k ≡ true) → all n p ≡ true
+  unfolding all
+  all-each zero h = refl
+  all-each (suc n) h = rw (all-each n (λ k l. h k (omega arith)), h n (omega arith))
+
   -- one that fails
   all-fails : (n k : ℕ) → k < n → p k ≡ false → all n p ≡ false
   unfolding all

@@ -9,9 +9,9 @@ use native.Mathlib.Omega.{arith}
 use lib.Dec.{leb}
 use lib.ListN.{length, getD}
 use borrow.Author.Tests.{le-leb, lt-leb}
-use Rattle.base.specs.RangeLaws.{all-stop}
+use Rattle.base.specs.RangeLaws.{all-each, all-stop}
 use Rattle.base.specs.FirstLaws.{first-hit, first-none}
-use Rattle.lookup.specs.FirstMore.{first-nothing, all-each}
+use Rattle.lookup.specs.FirstMore.{first-nothing}
 use Rattle.lookup.specs.Lookup.{times, topAt, valueAt, mostCommon}
 
 -- how often the one at j is there

@@ -1,11 +1,10 @@
--- More of `first` and `all`. Assumes nothing.
+-- More of `first`. Assumes nothing.
 use Prim.Native.Nat.{ℕ, zero, suc, _≤_, _<_}
 use mathlib.Core.Path.{_≡_, refl, _∙_}
 use mathlib.Core.Bool.{Bool, true, false}
 use mathlib.Core.Logic.{⊎-elim}
 use native.Mathlib.Nat.{eq-or-lt-of-le, le-of-suc-le-suc, le-antisymm}
 use native.Mathlib.Omega.{arith}
-use Rattle.base.specs.Range.{all}
 use Rattle.base.specs.First.{first, orElse}
 use Rattle.base.specs.declared.Place.{Place}
 use Rattle.base.specs.declared.Place.the-variants.{At, Nothing}
@@ -15,11 +14,6 @@ module _ (p : ℕ → Bool) where
   unfolding first
   first-nothing zero h = refl
   first-nothing (suc n) h = rw (first-nothing n (λ k l. h k (omega arith)), h n (omega arith))
-
-  pub all-each : (n : ℕ) → ((k : ℕ) → k < n → p k ≡ true) → all n p ≡ true
-  unfolding all
-  all-each zero h = refl
-  all-each (suc n) h = rw (all-each n (λ k l. h k (omega arith)), h n (omega arith))
 
 -- questions that agree below n have one answer
 pub first-cong : (p q : ℕ → Bool) (n : ℕ) → ((k : ℕ) → k < n → p k ≡ q k) → first n p ≡ first n q

@@ -11,7 +11,7 @@ use native.Mathlib.Omega.{arith}
 use lib.Dec.{eqb, ltb, leb}
 use borrow.Author.Tests.{leb-true, ltb-true, ltb-false, eqb-true, le-leb, le-ltb, lt-ltb, eq-eqb, ne-eqb, not-true, not-false}
 use Rattle.base.specs.Range.{all, count, bit, every}
-use Rattle.base.specs.RangeLaws.{all-none, all-more, all-at, all-stop, all-done, count-none, count-more, count-le, count-done, or-cases, or-left-no, or-right-no, bool-iff, every-at, and-left, and-right, and-intro}
+use Rattle.base.specs.RangeLaws.{all-none, all-more, all-at, all-each, all-stop, all-done, count-none, count-more, count-le, count-done, or-cases, or-left-no, or-right-no, bool-iff, every-at, and-left, and-right, and-intro}
 use Rattle.profile.specs.Profile.{records, byteAt, isKind, kindCount, bankCount, kindBefore, rises, runs, namesBank, orderedAt, onceEach, orderOk, banksOk}
 use Rattle.profile.specs.RangeMore.{count-mono, count-reach}
 
@@ -25,12 +25,6 @@ orderedHere s k = rises s k && (runs s k && namesBefore s k)
 -- 3 or 4, if that is a cause to decline the profile, or 0
 abbrev pub causeOf : List ℕ → ℕ
 causeOf s = cond (orderOk s) (cond (banksOk s) 0 4) 3
-
--- what is true of each is true of all
-all-each : (p : ℕ → Bool) (n : ℕ) → ((k : ℕ) → k < n → p k ≡ true) → all n p ≡ true
-unfolding all
-all-each p zero h = refl
-all-each p (suc n) h = rw (all-each p n (λ k l. h k (omega arith)), h n (omega arith))
 
 count-step : (p : ℕ → Bool) (k : ℕ) (b : Bool) → p k ≡ b → count (k + 1) p ≡ count k p + bit b
 count-step p k b e = count-more p k ∙ rw e

@@ -8,7 +8,7 @@ use mathlib.Core.Option.{Option, none, some}
 use lib.Dec.{eqb, leb, ltb}
 use lib.ListN.{length, getD, take}
 use Rattle.base.specs.Range.{all, count, every}
-use Rattle.base.specs.First.{first, until}
+use Rattle.base.specs.First.{first, until, orElse}
 use Rattle.base.specs.Keyed.{find, change}
 use Rattle.base.specs.declared.Place.{Place}
 use Rattle.base.specs.declared.Place.the-variants.{At, Nothing}
@@ -127,13 +127,9 @@ abbrev pub precede : Found → Found → Found
 precede (found.To d) f = found.To d
 precede found.Nothing f = f
 
-abbrev pub orPlace : Place → Place → Place
-orPlace (At k) q = At k
-orPlace Nothing q = q
-
 -- the record of the encoder in reach: the globals' or else the bank's
 unfoldable pub encoderPlace : List ℕ → ℕ → ℕ → Place
-encoderPlace s bank number = orPlace (entry s 3 255 number) (entry s 3 bank number)
+encoderPlace s bank number = orElse (entry s 3 255 number) (entry s 3 bank number)
 
 -- Rust's `==` on every field, f64 by its own equality
 unfoldable pub sameDest : Destination → Destination → Bool

@@ -6,7 +6,7 @@ use mathlib.Core.List.{List}
 use native.Mathlib.Nat.{lt-of-lt-of-le}
 use borrow.Author.Tests.{eqb-true, eq-eqb}
 use Rattle.base.specs.RangeLaws.{every-at}
-use Rattle.base.specs.First.{first}
+use Rattle.base.specs.First.{first, orElse}
 use Rattle.base.specs.FirstLaws.{first-at, first-hit, until-le, until-here, until-done, until-on}
 use Rattle.base.specs.declared.Place.{Place}
 use Rattle.base.specs.declared.Place.the-variants.{At, Nothing}
@@ -14,7 +14,7 @@ use Rattle.profile.specs.Profile.{records, byteAt, isKind}
 use Rattle.lookup.specs.declared.Command.{Command}
 use Rattle.lookup.specs.declared.Bound.{Bound}
 use Rattle.lookup.specs.declared.Bound.the-variants as bound
-use Rattle.lookup.specs.Lookup.{isEntry, isPast, reach, entry, foundAt, controlOf, encoderOf, precede, orPlace, encoderPlace, before}
+use Rattle.lookup.specs.Lookup.{isEntry, isPast, reach, entry, foundAt, controlOf, encoderOf, precede, encoderPlace, before}
 
 -- ── how far a lookup goes ──
 
@@ -78,15 +78,15 @@ runs-there r f g c e q = rw (← e, q)
 pub runs-elsewhere : (r f g h : Bound) → r ≡ f → r ≡ bound.Nothing → h ≡ g → h ≡ before f g
 runs-elsewhere r f g h e q p = rw (← e, q) p
 
-pub place-there : (r f g : Place) (k : ℕ) → r ≡ f → r ≡ At k → At k ≡ orPlace f g
+pub place-there : (r f g : Place) (k : ℕ) → r ≡ f → r ≡ At k → At k ≡ orElse f g
 place-there r f g k e q = rw (← e, q)
 
-pub place-elsewhere : (r f g h : Place) → r ≡ f → r ≡ Nothing → h ≡ g → h ≡ orPlace f g
+pub place-elsewhere : (r f g h : Place) → r ≡ f → r ≡ Nothing → h ≡ g → h ≡ orElse f g
 place-elsewhere r f g h e q p = rw (← e, q) p
 
 -- ── the encoder in reach ──
 
-found-or : (s : List ℕ) (f g : Place) → foundAt s (orPlace f g) ≡ precede (foundAt s f) (foundAt s g)
+found-or : (s : List ℕ) (f g : Place) → foundAt s (orElse f g) ≡ precede (foundAt s f) (foundAt s g)
 found-or s (At k) g = refl
 found-or s Nothing g = refl
 
@@ -95,7 +95,7 @@ pub encoder-place-found : (s : List ℕ) (bank number : ℕ) → foundAt s (enco
 unfolding encoderPlace controlOf
 encoder-place-found s bank number = found-or s (entry s 3 255 number) (entry s 3 bank number)
 
-one-of : (s : List ℕ) (bank number k : ℕ) (f : Place) → f ≡ entry s 3 255 number → orPlace f (entry s 3 bank number) ≡ At k → (k < records s) × (isKind s 3 k ≡ true)
+one-of : (s : List ℕ) (bank number k : ℕ) (f : Place) → f ≡ entry s 3 255 number → orElse f (entry s 3 bank number) ≡ At k → (k < records s) × (isKind s 3 k ≡ true)
 one-of s bank number k (At j) e q =
     let w = entry-is s 3 255 number k (sym e ∙ q) in (w .in-file, eq-eqb (byteAt s k 0) 3 (w .kind-is))
 one-of s bank number k Nothing e q =

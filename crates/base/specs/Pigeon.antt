@@ -37,6 +37,12 @@ pub rest-no : (b : Bool) (c : Bool) → pick b true c ≡ false → c ≡ false
 rest-no true c e = absurd (true≢false e)
 rest-no false c e = e
 
+-- what passes a test passes any that follows from it
+pub all-so : {A : Type 0} (f g : A → Bool) → ((x : A) → f x ≡ true → g x ≡ true) → (l : List A) → allOf f l ≡ true → allOf g l ≡ true
+unfolding allOf
+all-so f g r [] e = refl
+all-so f g r (x ∷ l) e = rw (r x (left-of (f x) (allOf f l) e)) (all-so f g r l (right-of (f x) (allOf f l) e))
+
 -- two lists whose elements pass, one behind the other
 pub all-append : {A : Type 0} (f : A → Bool) (xs ys : List A) → allOf f xs ≡ true → allOf f ys ≡ true → allOf f (xs ++ ys) ≡ true
 unfolding allOf
@@ -164,10 +170,6 @@ module _ {A : Type 0} (key : A → ℕ) where
 module _ {A : Type 0} (key : A → ℕ) (k : ℕ) (g : A → A) (y : A) (kg : (z : A) → key (g z) ≡ k) (ky : key y ≡ k) where
   abbrev is : A → Bool
   is x = eqb (key x) k
-
-  pub every-change : (n : ℕ) (l : List A) → k < n → allOf (λ x. ltb (key x) n) l ≡ true → allOf (λ x. ltb (key x) n) (change is g y l) ≡ true
-  every-change n l h e =
-      all-change (λ x. ltb (key x) n) is g y (rw (ky, lt-ltb _ _ h)) (λ z. rw (kg z, lt-ltb _ _ h)) l e
 
   any-change : (x : A) (l : List A) → (key x ≡ k → ⊥) → anyOf (same key x) l ≡ false → anyOf (same key x) (change is g y l) ≡ false
   unfolding anyOf change

@@ -1,7 +1,7 @@
 -- "Well shaped" (document 01, number 8), said of a session as it is seen over the profile p. Definitions only.
 use Prim.Native.Nat.{ℕ, _≤_, _<_}
 use mathlib.Core.Path.{_≡_}
-use mathlib.Core.Bool.{Bool, true}
+use mathlib.Core.Bool.{true}
 use mathlib.Core.List.{List}
 use mathlib.Core.Option.{none}
 use lib.Dec.{eqb}
@@ -10,11 +10,9 @@ use Rattle.base.specs.Keyed.{allOf, noTwice}
 use Rattle.profile.specs.Profile.{records, isKind, bankCount}
 use Rattle.lookup.specs.Lookup.{destAt}
 use Rattle.lookup.specs.declared.Destination.{Destination}
-use Rattle.session.specs.Session.{Turn, stripsOr, targetsOf}
-use Rattle.session.specs.SessionLaws.{WellLine}
-use Rattle.session.specs.declared.Strip.{Strip}
-use Rattle.definition.specs.Faders.{inRange}
-use Rattle.definition.specs.Shape.{goodStrip, sameNumber, sameTurn, shapedFlash}
+use Rattle.session.specs.Session.{Turn, sameTurn, stripsOr, targetsOf}
+use Rattle.session.specs.SessionLaws.{WellLine, WellStrips}
+use Rattle.definition.specs.Shape.{goodTurn, shapedFlash}
 use Rattle.definition.specs.Step.{Kept}
 use Rattle.bounds.specs.Drivers.{Each}
 
@@ -32,15 +30,6 @@ pub record Wired (p : List ℕ) (d : Destination) : Type 0 where
 abbrev pub WiredTurn : List ℕ → Turn → Type 0
 WiredTurn p e = Wired p (e .dest)
 
-abbrev pub turnInRange : Turn → Bool
-turnInRange e = inRange (e .sum)
-
--- "8 live faders a bank", "live numbers 1 to 8, live drivers at most 15", "no key twice"
-pub record WellStrips (l : List Strip) : Type 0 where
-  pub few : length l ≤ 8
-  pub good : allOf goodStrip l ≡ true
-  pub once : noTwice sameNumber l ≡ true
-
 -- the list of document 01, item by item, and that there are 16 drivers
 pub record Well (p : List ℕ) (k : Kept) : Type 0 where
   pub bank : k .site .bank < bankCount p
@@ -48,7 +37,7 @@ pub record Well (p : List ℕ) (k : Kept) : Type 0 where
   pub lives : (b : ℕ) → WellStrips (stripsOr (getD (k .site .lives) b none))
   pub few : length (k .desk .turns) ≤ 136
   pub wired : Each (WiredTurn p) (k .desk .turns)
-  pub sums : allOf turnInRange (k .desk .turns) ≡ true
+  pub sums : allOf goodTurn (k .desk .turns) ≡ true
   pub destinations : noTwice sameTurn (k .desk .turns) ≡ true
   pub held : length (k .silenced) ≤ 256
   pub targets : noTwice eqb (targetsOf (k .silenced)) ≡ true

@@ -24,15 +24,15 @@ use Rattle.lookup.specs.declared.Destination.{Destination}
 use Rattle.lookup.specs.declared.Found.{Found}
 use Rattle.lookup.specs.declared.Found.the-variants as found
 use Rattle.drivers.specs.Talk.{Talk, next}
-use Rattle.session.specs.Session.{Turn, isMarked, lastMove, turn, addTo, firstTurn, isDest}
+use Rattle.session.specs.Session.{Turn, isMarked, lastMove, turn, addTo, firstTurn, isDest, sameTurn}
 use Rattle.session.specs.SessionLaws.{WellLine, line-empty, line-place, turn-once}
 use Rattle.definition.specs.Rig.{Lives, Rig, rigOf, destination, encoderDest}
 use Rattle.definition.specs.Levels.{read}
 use Rattle.definition.specs.Faders.{Desk, isHeld, keyOf, holdMove, takeMove, movedIf, faderIf, faderTo, fader, inRange, declinedBy, turnTo, encoder, refusalTo, turnRefusal, drained}
-use Rattle.definition.specs.Shape.{sameTurn}
+use Rattle.definition.specs.Shape.{goodTurn}
 use Rattle.definition.specs.Step.{unmarked, unmarkedAt}
 use Rattle.bounds.specs.Drivers.{Each, no-more, one-more}
-use Rattle.bounds.specs.Well.{Wired, WiredTurn, turnInRange}
+use Rattle.bounds.specs.Well.{Wired, WiredTurn}
 
 -- ── sums ──
 
@@ -40,7 +40,7 @@ use Rattle.bounds.specs.Well.{Wired, WiredTurn, turnInRange}
 pub record WellTurns (p : List ℕ) (l : List Turn) : Type 0 where
   pub few : length l ≤ 136
   pub wired : Each (WiredTurn p) l
-  pub sums : allOf turnInRange l ≡ true
+  pub sums : allOf goodTurn l ≡ true
   pub destinations : noTwice sameTurn l ≡ true
 
 -- a list in which one is changed, or that has one more
@@ -94,7 +94,7 @@ module _ (p : List ℕ) (e : Destination) (n : ℤ) (l : List Turn) (h : WellTur
   in-range true q = refl
   in-range false q = absurd (omega arith)
 
-  sum-passes : (o : Option Turn) → inRange n ≡ true → declinedBy o n l ≡ 0 → Passes (isDest e) (addTo n) (firstTurn e n) turnInRange o
+  sum-passes : (o : Option Turn) → inRange n ≡ true → declinedBy o n l ≡ 0 → Passes (isDest e) (addTo n) (firstTurn e n) goodTurn o
   sum-passes (some z) low r = in-range (inRange (z .sum +ℤ n)) r
   sum-passes none low r = low
 
@@ -104,7 +104,7 @@ module _ (p : List ℕ) (e : Destination) (n : ℤ) (l : List Turn) (h : WellTur
       record {
         few = turn-few (find (isDest e) l) refl r;
         wired = change-each (isDest e) (addTo n) (firstTurn e n) (WiredTurn p) l (λ x i. i) w (h .wired);
-        sums = change-all (isDest e) (addTo n) (firstTurn e n) turnInRange l (h .sums) (sum-passes (find (isDest e) l) low r);
+        sums = change-all (isDest e) (addTo n) (firstTurn e n) goodTurn l (h .sums) (sum-passes (find (isDest e) l) low r);
         destinations = turn-once l e n (h .destinations);
       }
 

@@ -2,40 +2,38 @@
 use Prim.Native.Nat.{ℕ, zero, suc, _+_, _*_, _≤_, _<_}
 use mathlib.Core.Path.{_≡_, refl, ap}
 use mathlib.Core.Bool.{Bool, true, false, _&&_, _||_, not, false≢true}
-use mathlib.Core.List.{List, [], _∷_, map}
+use mathlib.Core.List.{List, [], _∷_}
 use mathlib.Core.Option.{Option, none, some}
 use native.Mathlib.Omega.{arith}
 use lib.Dec.{eqb, leb, ltb}
-use lib.ListN.{length, getD, set, length-take}
-use borrow.Author.Tests.{lt-ltb, ltb-true, le-leb, ne-eqb}
+use lib.ListN.{length, getD, set}
+use borrow.Author.Tests.{lt-ltb, ltb-true, ne-eqb}
 use Rattle.base.specs.Choice.{pick}
-use Rattle.base.specs.Range.{all, every}
+use Rattle.base.specs.Range.{all}
 use Rattle.base.specs.RangeLaws.{and-left, and-right, all-none}
 use Rattle.base.specs.Words.{le16}
-use Rattle.base.specs.Keyed.{anyOf, allOf, keep, noTwice}
-use Rattle.base.specs.Pigeon.{left-of, right-of, all-append, once-append}
+use Rattle.base.specs.Keyed.{anyOf, allOf, noTwice}
+use Rattle.base.specs.Pigeon.{left-of, right-of, all-so, all-append, once-append}
 use Rattle.drivers.specs.Answers.{countAt, itemAt, itemsOf, itemFits, liveFits, listIf, liveList, toLive, answerTo, answerOf, itemCount, isUnfit, isList}
 use Rattle.drivers.specs.Talk.{Stop, going, waits, declined, overrun, Talk, next, Reply, askFit, askLeft, askRoom, askAt, ask, askIf as askWhen, openFor, useCall, plainCall, liveOf}
 use Rattle.drivers.specs.declared.Answer.{Answer}
 use Rattle.drivers.specs.declared.Answer.the-variants as answer
 use Rattle.drivers.specs.declared.Call.{Call}
 use Rattle.drivers.specs.declared.LiveFader.{LiveFader}
-use Rattle.session.specs.Session.{stripsOr, stripOf, stripsOf, onSurface}
-use Rattle.session.specs.SessionLaws.{sameNumber, lowNumber, lowDriver, strips-well}
+use Rattle.session.specs.Session.{stripsOr}
+use Rattle.session.specs.SessionLaws.{sameFader, WellStrips, strips-well}
 use Rattle.session.specs.declared.Lamps.{Lamps}
 use Rattle.session.specs.declared.Strip.{Strip}
 use Rattle.definition.specs.Rig.{Lives, Rig}
 use Rattle.definition.specs.Live.{sameAs, handed, changeIf, askIf, refreshLive, refreshDue}
-use Rattle.definition.specs.Shape.{goodStrip}
 use Rattle.bounds.specs.Room.{IsDriver}
-use Rattle.bounds.specs.Well.{WellStrips}
 
 -- ── numbers that rise ──
 
 abbrev below : ℕ → LiveFader → Bool
 below m f = ltb (f .number) m
 
-below-free : (x : LiveFader) (l : List LiveFader) → allOf (below (x .number)) l ≡ true → anyOf (λ y. sameNumber y x) l ≡ false
+below-free : (x : LiveFader) (l : List LiveFader) → allOf (below (x .number)) l ≡ true → anyOf (λ y. sameFader y x) l ≡ false
 unfolding allOf anyOf
 below-free x [] h = refl
 below-free x (y ∷ l) h =
@@ -43,11 +41,7 @@ below-free x (y ∷ l) h =
     rw (ne-eqb (y .number) (x .number) (λ q. omega (arith, a, q))) (below-free x l (right-of (below (x .number) y) (allOf (below (x .number)) l) h))
 
 below-more : (m n : ℕ) (l : List LiveFader) → m ≤ n → allOf (below m) l ≡ true → allOf (below n) l ≡ true
-unfolding allOf
-below-more m n [] h k = refl
-below-more m n (x ∷ l) h k =
-    let a : x .number < m = ltb-true _ _ (left-of (below m x) (allOf (below m) l) k) in
-    rw (lt-ltb (x .number) n (omega (arith, a, h))) (below-more m n l h (right-of (below m x) (allOf (below m) l) k))
+below-more m n l h k = all-so (below m) (below n) (λ x a. lt-ltb (x .number) n (omega (arith, ltb-true (x .number) m a, h))) l k
 
 last-of : (a b c d : Bool) → (a && (b && (c && d))) ≡ true → d ≡ true
 last-of a b c d h = and-right c d (and-right b (c && d) (and-right a (b && (c && d)) h))
@@ -78,13 +72,13 @@ module _ (part : List ℕ) where
       let i = items-below n (numberAt n) (and-left (all n (liveFits part)) (liveFits part n) h) (fits-rises n f) in
       all-append (below m) (itemsOf n part) (itemAt part n ∷ []) (below-more (numberAt n) m (itemsOf n part) (omega (arith, b)) i) (rw (lt-ltb (numberAt n) m b))
 
-  items-once : (n : ℕ) → all n (liveFits part) ≡ true → noTwice sameNumber (itemsOf n part) ≡ true
+  items-once : (n : ℕ) → all n (liveFits part) ≡ true → noTwice sameFader (itemsOf n part) ≡ true
   unfolding all itemsOf noTwice
   items-once zero h = refl
   items-once (suc n) h =
       let f = and-right (all n (liveFits part)) (liveFits part n) h in
       let g = and-left (all n (liveFits part)) (liveFits part n) h in
-      once-append sameNumber (itemsOf n part) (itemAt part n) (items-once n g)
+      once-append sameFader (itemsOf n part) (itemAt part n) (items-once n g)
       (below-free (itemAt part n) (itemsOf n part) (items-below n (numberAt n) g (fits-rises n f)))
 
   -- ── the answer to `live` ──
@@ -116,18 +110,18 @@ module _ (part : List ℕ) where
       either (ltb (length part) 16) answer.Unfit _ unfit
       (either (eqb (getD part 0 0) 0) answer.Refused (answerTo 9 (getD part 0 0) part) (λ e. absurd (false≢true e)) (live-listed (getD part 0 0)))
 
-  answer-once : noTwice sameNumber (itemsOf (itemCount (answerOf part 9) part) part) ≡ true
+  answer-once : noTwice sameFader (itemsOf (itemCount (answerOf part 9) part) part) ≡ true
   unfolding itemCount
   answer-once = go (isList (answerOf part 9)) refl
     where
-      go : (b : Bool) → isList (answerOf part 9) ≡ b → noTwice sameNumber (itemsOf (pick b (countAt part) 0) part) ≡ true
+      go : (b : Bool) → isList (answerOf part 9) ≡ b → noTwice sameFader (itemsOf (pick b (countAt part) 0) part) ≡ true
       go true e = items-once (countAt part) (answer-listed e)
       go false e = items-once 0 (all-none (liveFits part))
 
 abbrev Once : Reply → Type 0
-Once r = noTwice sameNumber (r .items) ≡ true
+Once r = noTwice sameFader (r .items) ≡ true
 
-none-once : noTwice sameNumber [] ≡ true
+none-once : noTwice sameFader [] ≡ true
 unfolding noTwice
 none-once = refl
 
@@ -159,36 +153,12 @@ module _ (driver which : ℕ) (t : Talk) where
   when-once true = at-once (t .stop)
   when-once false = none-once
 
-live-once : (driver which : ℕ) (t : Talk) → noTwice sameNumber ((liveOf driver which t) .value .list) ≡ true
+live-once : (driver which : ℕ) (t : Talk) → noTwice sameFader ((liveOf driver which t) .value .list) ≡ true
 unfolding liveOf useCall next
 live-once driver which t =
     let c = plainCall 9 driver 0 which in
     let o = openFor (c .driver) (c .name) t in
     when-once driver which (o .talk) (o .value)
-
--- ── the strips of a list ──
-
-good-all : (l : List Strip) → allOf lowNumber l ≡ true → allOf lowDriver l ≡ true → allOf goodStrip l ≡ true
-unfolding allOf every
-good-all [] h k = refl
-good-all (s ∷ l) h k =
-    let a = left-of (lowNumber s) (allOf lowNumber l) h in
-    let d : s .driver < 16 = ltb-true _ _ (left-of (lowDriver s) (allOf lowDriver l) k) in
-    rw (and-left (leb 1 (s .number)) (leb (s .number) 8) a, and-right (leb 1 (s .number)) (leb (s .number) 8) a, le-leb (s .driver) 15 (omega (arith, d)))
-    (good-all l (right-of (lowNumber s) (allOf lowNumber l) h) (right-of (lowDriver s) (allOf lowDriver l) k))
-
-pub no-strips : WellStrips []
-unfolding allOf noTwice
-no-strips = record { few = omega arith; good = refl; once = refl }
-
-eight : (driver : ℕ) (l : List LiveFader) → length (stripsOf driver l) ≤ 8
-unfolding stripsOf
-eight driver l = omega (arith, length-take 8 (map (stripOf driver) (keep onSurface l)))
-
-handed-well : (driver : ℕ) (l : List LiveFader) → IsDriver driver → noTwice sameNumber l ≡ true → WellStrips (stripsOf driver l)
-handed-well driver l d o =
-    let w = strips-well driver l d o in
-    record { few = eight driver l; good = good-all (stripsOf driver l) (w .low) (w .drivers); once = w .once }
 
 -- ── what a tick leaves ──
 
@@ -206,7 +176,7 @@ module _ (r : Rig) (own : eqb (r .here .part .device) 65535 ≡ false → IsDriv
       let d = r .here .part .device in
       let u = liveOf d (r .here .part .live) t in
       change-well (sameAs known (handed d (u .value))) (handed d (u .value)) x s (u .talk)
-      (handed-well d (u .value .list) (h refl) (live-once d (r .here .part .live) t))
+      (strips-well d (u .value .list) (h refl) (live-once d (r .here .part .live) t))
 
   pub refresh-well : (b : Bool) (known : Option (List Strip)) (x : Lamps) (s : List ℕ) (t : Talk) → WellStrips ((refreshDue b known r x s t) .value .strips)
   unfolding refreshLive

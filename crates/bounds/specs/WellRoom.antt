@@ -16,11 +16,10 @@ use Rattle.lookup.specs.View.{viewOf}
 use Rattle.lookup.specs.declared.Destination.{Destination}
 use Rattle.drivers.specs.Talk.{overrun, start}
 use Rattle.drivers.specs.declared.Call.{Call}
-use Rattle.session.specs.Session.{Turn}
+use Rattle.session.specs.Session.{Turn, goodStrip}
 use Rattle.session.specs.SessionLaws.{line-fits}
 use Rattle.session.specs.declared.Strip.{Strip}
 use Rattle.event.specs.declared.Timed.{Timed}
-use Rattle.definition.specs.Shape.{goodStrip}
 use Rattle.definition.specs.Step.{Kept, act, step, done}
 use Rattle.bounds.specs.Drivers.{Each, no-more, one-more, MayTurn, MayStrip}
 use Rattle.bounds.specs.Room.{IsDriver, Within}

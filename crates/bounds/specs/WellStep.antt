@@ -18,7 +18,7 @@ use Rattle.profile.specs.Accepted.{some-bank}
 use Rattle.lookup.specs.View.{View, viewOf}
 use Rattle.drivers.specs.Talk.{Stop, going, waits, declined, overrun, Talk, Got, next, start}
 use Rattle.session.specs.Session.{Hushed, targetsOf, freshSession, noStrips, seenStrips}
-use Rattle.session.specs.SessionLaws.{line-empty}
+use Rattle.session.specs.SessionLaws.{WellStrips, no-strips, line-empty}
 use Rattle.session.specs.declared.Strip.{Strip}
 use Rattle.event.specs.declared.Input.{Input}
 use Rattle.event.specs.declared.Input.the-variants as input
@@ -30,12 +30,12 @@ use Rattle.definition.specs.Buttons.{button}
 use Rattle.definition.specs.Shape.{shapedFlash}
 use Rattle.definition.specs.Step.{Kept, Left, left, rigNow, pressAt, onButton, onMidi, unmarkedAt, livesAfter, siteAfter, tickWith, tick, act, overfull, finish, stepIf, refusal, step, seen, freshKept}
 use Rattle.bounds.specs.Room.{LowEvent, LowInput}
-use Rattle.bounds.specs.Well.{WellStrips, Well}
+use Rattle.bounds.specs.Well.{Well}
 use Rattle.bounds.specs.Profiles.{accepted-sound}
 use Rattle.bounds.specs.RoomLaws.{act-room}
 use Rattle.bounds.specs.WellFlash.{Shaped, bank-gives, tick-gives}
 use Rattle.bounds.specs.WellPress.{Settled, button-fine}
-use Rattle.bounds.specs.WellLive.{WellLives, no-strips, refresh-well, set-well}
+use Rattle.bounds.specs.WellLive.{WellLives, refresh-well, set-well}
 use Rattle.bounds.specs.WellDesk.{WellDesk, fader-well, encoder-well, unmarked-well, unmarkedAt-well, no-turns, drained-well}
 use Rattle.bounds.specs.WellRoom.{well-within}
 use Rattle.bounds.specs.Silencing.{silenced-so}

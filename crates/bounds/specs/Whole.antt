@@ -8,7 +8,7 @@ use native.Mathlib.Omega.{arith}
 use lib.Dec.{eqb, leb, ltb}
 use lib.IntN.{ℤ}
 use lib.ListN.{length, getD, take, length-take}
-use borrow.Author.Tests.{eqb-true, leb-true, ltb-true, lt-ltb}
+use borrow.Author.Tests.{eqb-true, leb-true, ltb-true}
 use Rattle.base.specs.Choice.{pick}
 use Rattle.base.specs.Range.{every}
 use Rattle.base.specs.RangeLaws.{and-left, and-right, every-at}
@@ -17,23 +17,20 @@ use Rattle.base.specs.Pigeon.{left-of, right-of}
 use Rattle.profile.specs.Profile.{records, isKind, bankCount, verdict}
 use Rattle.lookup.specs.View.{viewOf}
 use Rattle.drivers.specs.declared.Call.{Call}
-use Rattle.session.specs.Session.{turnAt, seenLine, isEncoder, hushedAt, seenStrips, stripsOr, stripsIf}
-use Rattle.session.specs.SessionLaws.{WellLine}
-use Rattle.session.specs.SessionLaws as laws
+use Rattle.session.specs.Session.{turnAt, seenLine, isEncoder, hushedAt, seenStrips, stripsOr, stripsIf, goodStrip, sameNumber}
+use Rattle.session.specs.SessionLaws.{WellLine, WellStrips, no-strips}
 use Rattle.session.specs.declared.Session.{Session}
-use Rattle.session.specs.declared.Move.{Move}
 use Rattle.session.specs.declared.Line.{Line}
 use Rattle.session.specs.declared.Strips.{Strips}
 use Rattle.event.specs.Event.{readOf}
 use Rattle.event.specs.declared.Read.{Read}
 use Rattle.event.specs.declared.Read.the-variants.{Known, Unknown}
 use Rattle.event.specs.declared.Timed.{Timed}
-use Rattle.definition.specs.Shape.{lowChannel, shapedLine, goodStrip, sameNumber, shapedStrips, shapedTurns, shapedSilenced, wellShaped}
+use Rattle.definition.specs.Shape.{shapedLine, shapedStrips, shapedTurns, shapedSilenced, wellShaped}
 use Rattle.definition.specs.Step.{Kept, seen, done, refused, Stepped, stepped, step}
 use Rattle.definition.specs.Whole.{whole, offered}
 use Rattle.bounds.specs.Drivers.{Each, no-more, one-more}
-use Rattle.bounds.specs.Well.{WiredTurn, WellStrips, Well}
-use Rattle.bounds.specs.WellLive.{no-strips}
+use Rattle.bounds.specs.Well.{WiredTurn, Well}
 use Rattle.bounds.specs.WellRoom.{well-few}
 use Rattle.bounds.specs.WellStep.{step-well}
 use Rattle.bounds.specs.Channels.{read-low}
@@ -46,16 +43,9 @@ beside-short f [] ys = omega arith
 beside-short f (x ∷ xs) [] = omega arith
 beside-short f (x ∷ xs) (y ∷ ys) = omega (arith, beside-short f xs ys)
 
-channels : (l : List Move) → allOf lowChannel l ≡ true → allOf laws.lowChannel l ≡ true
-unfolding allOf
-channels [] e = refl
-channels (m ∷ l) e =
-    let h : m .channel ≤ 15 = leb-true (m .channel) 15 (left-of (leb (m .channel) 15) (allOf lowChannel l) e) in
-    rw (lt-ltb (m .channel) 16 (omega arith)) (channels l (right-of (leb (m .channel) 15) (allOf lowChannel l) e))
-
 pub line-well : (l : Line) → shapedLine l ≡ true → WellLine (seenLine l)
 unfolding shapedLine
-line-well l e = record { low = channels (seenLine l) (every-at _ 1 e); once = every-at _ 2 e }
+line-well l e = record { low = every-at _ 1 e; once = every-at _ 2 e }
 
 -- the tests of a list that is known
 abbrev stripTests : Strips → List Bool

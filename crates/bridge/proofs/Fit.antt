@@ -5,7 +5,7 @@ use mathlib.Core.Bool.{Bool, true, false, _||_, not, true≢false}
 use mathlib.Core.List.{List, [], _∷_, map}
 use mathlib.Core.Option.{none}
 use native.Mathlib.Omega.{arith}
-use lib.Dec.{eqb, leb, ltb}
+use lib.Dec.{eqb, leb}
 use lib.ListN.{getD, take}
 use borrow.Author.Tests.{leb-true, ltb-true, le-leb, lt-ltb, eqb-true}
 use Rattle.base.specs.Choice.{pick}
@@ -15,17 +15,15 @@ use Rattle.base.specs.Keyed.{allOf, noTwice}
 use Rattle.base.specs.Pigeon.{left-of, right-of}
 use Rattle.profile.specs.Profile.{bankCount, verdict}
 use Rattle.profile.specs.Accepted.{few-banks}
-use Rattle.session.specs.Session.{seenLine, seenTurns, isEncoder, seenSilenced, targetsOf, seenStrips, stripsOr, stripsIf}
-use Rattle.session.specs.SessionLaws.{WellLine}
-use Rattle.session.specs.SessionLaws as laws
+use Rattle.session.specs.Session.{seenLine, seenTurns, isEncoder, seenSilenced, targetsOf, seenStrips, stripsOr, stripsIf, goodStrip, sameNumber}
+use Rattle.session.specs.SessionLaws.{WellLine, WellStrips}
 use Rattle.session.specs.declared.Session.{Session}
 use Rattle.session.specs.declared.Flash.{Flash}
-use Rattle.session.specs.declared.Move.{Move}
 use Rattle.session.specs.declared.Strips.{Strips}
-use Rattle.definition.specs.Shape.{lowChannel, shapedLine, goodStrip, sameNumber, shapedStrips, goodTurn, shapedTurns, shapedSilenced, shapedFlash, wellShaped}
+use Rattle.definition.specs.Shape.{shapedLine, shapedStrips, goodTurn, shapedTurns, shapedSilenced, shapedFlash, wellShaped}
 use Rattle.definition.specs.Step.{seen}
 use Rattle.surface.specs.Home.{hasNote}
-use Rattle.bounds.specs.Well.{WellStrips, Well}
+use Rattle.bounds.specs.Well.{Well}
 use Rattle.bounds.specs.Whole.{line-well}
 use Rattle.after.specs.After.{fewStrips, Places}
 
@@ -134,13 +132,6 @@ module _ (p : List ℕ) (s : Session) (e : wellShaped p s ≡ true) where
 
 -- ── and back: a session within its places that is seen well shaped is so ──
 
-pub low-again : (l : List Move) → allOf laws.lowChannel l ≡ true → allOf lowChannel l ≡ true
-unfolding allOf
-low-again [] e = refl
-low-again (m ∷ l) e =
-    let h : m .channel < 16 = ltb-true (m .channel) 16 (left-of (ltb (m .channel) 16) (allOf laws.lowChannel l) e) in
-    rw (le-leb (m .channel) 15 (omega arith)) (low-again l (right-of (ltb (m .channel) 16) (allOf laws.lowChannel l) e))
-
 strips-again : (s : Strips) → fewStrips s ≡ true → WellStrips (stripsOr (seenStrips s)) → shapedStrips s ≡ true
 unfolding shapedStrips seenStrips every
 strips-again s h w = at (s .known) h w
@@ -162,7 +153,7 @@ shaped-again p s w f =
     rw (
       lt-ltb (s .bank) (bankCount p) (w .bank),
       le-leb (s .line .count) 16 (f .line),
-      low-again (seenLine (s .line)) (w .line .low),
+      w .line .low,
       w .line .once,
       lives-again (s .live .banks) (f .live) (w .lives),
       le-leb (s .turns .count) 136 (f .turns),

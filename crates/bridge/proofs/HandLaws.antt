@@ -35,14 +35,14 @@ use Rattle.drivers.specs.Bytes.{joined, encode}
 use Rattle.drivers.specs.Shown.{shown}
 use Rattle.drivers.specs.declared.Io.{Io}
 use Rattle.drivers.specs.declared.Level.{Level}
-use Rattle.session.specs.Session.{Turn, turnAt, seenTurns, isEncoder, wiresTo, isDest, turn, RoomToTurn, isMarked, lastMove, seenLine, seenStrips, stripsAt}
+use Rattle.session.specs.Session.{Turn, turnAt, seenTurns, isEncoder, wiresTo, isDest, turn, RoomToTurn, isMarked, lastMove, seenLine, seenStrips, goodStrip, sameNumber, stripsAt}
 use Rattle.session.specs.declared.Session.{Session}
 use Rattle.session.specs.declared.Turns.{Turns}
 use Rattle.session.specs.declared.Strips.{Strips}
 use Rattle.session.specs.declared.Live.{Live}
 use Rattle.definition.specs.Rig.{Rig, destination, encoderDest}
 use Rattle.definition.specs.Faders.{Desk, desk, inRange, declinedBy, turnTo, encoder, refusalTo, turnRefusal, faderTo, fader}
-use Rattle.definition.specs.Shape.{goodStrip, sameNumber, shapedStrips, goodTurn, wellShaped}
+use Rattle.definition.specs.Shape.{shapedStrips, goodTurn, wellShaped}
 use Rattle.definition.specs.Step.{Kept, Left, Ended, done, refused, Stepped, stepped, seen, rigAt, withDesk, act, refusal, stepIf, step}
 use Rattle.rig.specs.Seen.{rigIn}
 use Rattle.rig.specs.declared.Current.{Current}

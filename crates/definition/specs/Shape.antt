@@ -8,11 +8,9 @@ use Rattle.base.specs.Range.{every}
 use Rattle.base.specs.Keyed.{allOf, noTwice}
 use Rattle.profile.specs.Profile.{bankCount}
 use Rattle.lookup.specs.Lookup.{destAt, sameDest}
-use Rattle.session.specs.Session.{Turn, seenLine, seenTurns, isEncoder, seenSilenced, targetsOf}
+use Rattle.session.specs.Session.{Turn, seenLine, lowChannel, sameChannel, seenTurns, isEncoder, sameTurn, seenSilenced, targetsOf, goodStrip, sameNumber}
 use Rattle.session.specs.declared.Session.{Session}
 use Rattle.session.specs.declared.Line.{Line}
-use Rattle.session.specs.declared.Move.{Move}
-use Rattle.session.specs.declared.Strip.{Strip}
 use Rattle.session.specs.declared.Strips.{Strips}
 use Rattle.session.specs.declared.Turns.{Turns}
 use Rattle.session.specs.declared.Silenced.{Silenced}
@@ -21,22 +19,10 @@ use Rattle.definition.specs.Faders.{inRange}
 
 -- ── the line: "counts within capacities (16 channels ..", "channels at most 15", "no key twice" ──
 
-abbrev pub lowChannel : Move → Bool
-lowChannel m = leb (m .channel) 15
-
-abbrev pub sameChannel : Move → Move → Bool
-sameChannel a b = eqb (a .channel) (b .channel)
-
 unfoldable pub shapedLine : Line → Bool
 shapedLine l = every (leb (l .count) 16 ∷ allOf lowChannel (seenLine l) ∷ noTwice sameChannel (seenLine l) ∷ [])
 
 -- ── live lists: "8 live faders a bank", "live numbers 1 to 8, live drivers at most 15". One that is not known is passed over ──
-
-abbrev pub goodStrip : Strip → Bool
-goodStrip s = every (leb 1 (s .number) ∷ leb (s .number) 8 ∷ leb (s .driver) 15 ∷ [])
-
-abbrev pub sameNumber : Strip → Strip → Bool
-sameNumber a b = eqb (a .number) (b .number)
 
 unfoldable pub shapedStrips : Strips → Bool
 shapedStrips s =
@@ -47,9 +33,6 @@ shapedStrips s =
 
 abbrev pub goodTurn : Turn → Bool
 goodTurn e = inRange (e .sum)
-
-abbrev pub sameTurn : Turn → Turn → Bool
-sameTurn a b = sameDest (a .dest) (b .dest)
 
 -- two records wire their encoders to one destination
 abbrev pub sameWire : List ℕ → ℕ → ℕ → Bool

@@ -16,11 +16,10 @@ ghost use mir.Val.{SFits};
 ghost use Rattle.base.specs.Keyed.{allOf, find};
 ghost use Rattle.lookup.specs.Lookup.{positionsOf, destAt};
 ghost use Rattle.drivers.specs.Shown.{shown};
-ghost use Rattle.session.specs.Session.{seenLine, turnAt, turnsUpTo, isEncoder, isDest};
+ghost use Rattle.session.specs.Session.{seenLine, lowChannel, turnAt, turnsUpTo, isEncoder, isDest};
 ghost use Rattle.definition.specs.Levels.{write};
 ghost use Rattle.definition.specs.Rig.{destination};
 ghost use Rattle.definition.specs.Faders.{inRange, declinedBy, nudgeFrom, applyNudge, nudges, aligned, writeMove, writes};
-ghost use Rattle.definition.specs.Shape.{lowChannel};
 ghost use Rattle.rig.specs.Seen.{rigIn};
 ghost use Rattle.hands.specs.Sums.{SumsFit};
 

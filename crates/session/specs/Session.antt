@@ -3,7 +3,7 @@
 -- definition alike. Definitions only.
 use Prim.Native.Nat.{ℕ, zero, suc, _+_, _-_, _*_, _≤_, _<_}
 use mathlib.Core.Path.{_≡_}
-use mathlib.Core.List.{List, [], map}
+use mathlib.Core.List.{List, [], _∷_, map}
 use mathlib.Core.Bool.{Bool, true, false, _&&_, not}
 use mathlib.Core.Option.{Option, none, some}
 use lib.Dec.{eqb, leb, ltb}
@@ -13,7 +13,7 @@ use mir.Syntax.{w32}
 use mir.Val.{SFits}
 use lib.Ieee.{Float, nan}
 use Rattle.base.specs.Choice.{pick}
-use Rattle.base.specs.Range.{all}
+use Rattle.base.specs.Range.{all, every}
 use Rattle.base.specs.declared.Place.{Place}
 use Rattle.base.specs.declared.Place.the-variants as place
 use Rattle.base.specs.Keyed.{find, anyOf, allOf, change, keep, beside}
@@ -82,6 +82,13 @@ isChannel ch m = eqb (m .channel) ch
 abbrev pub moveOf : ℕ → Float → Move
 moveOf ch v = record { channel = ch; level = v }
 
+-- "channels at most 15", and two moves of one channel
+abbrev pub lowChannel : Move → Bool
+lowChannel m = leb (m .channel) 15
+
+abbrev pub sameChannel : Move → Move → Bool
+sameChannel a b = eqb (a .channel) (b .channel)
+
 -- "takes its channel's place in the line, the end if it has none, and replaces the move there"
 unfoldable pub placeMove : ℕ → Float → List Move → List Move
 placeMove ch v l = change (isChannel ch) (λ m. moveOf ch v) (moveOf ch v) l
@@ -122,6 +129,9 @@ wiresTo p d k = sameDest (destAt p k) d
 -- the same destination, by Rust's ==; the one first turned stays in the list
 abbrev pub isDest : Destination → Turn → Bool
 isDest d e = sameDest (e .dest) d
+
+abbrev pub sameTurn : Turn → Turn → Bool
+sameTurn a b = sameDest (a .dest) (b .dest)
 
 abbrev pub addTo : ℤ → Turn → Turn
 addTo n e = record { dest = e .dest; sum = e .sum +ℤ n }
@@ -205,6 +215,13 @@ stripsOr (some l) = l
 
 abbrev pub isStrip : ℕ → Strip → Bool
 isStrip number s = eqb (s .number) number
+
+-- "live numbers 1 to 8, live drivers at most 15", and two strips of one number
+abbrev pub goodStrip : Strip → Bool
+goodStrip s = every (leb 1 (s .number) ∷ leb (s .number) 8 ∷ leb (s .driver) 15 ∷ [])
+
+abbrev pub sameNumber : Strip → Strip → Bool
+sameNumber a b = eqb (a .number) (b .number)
 
 -- the strip of a number, which a list has once at most
 unfoldable pub stripAt : ℕ → List Strip → Option Strip

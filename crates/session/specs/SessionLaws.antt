@@ -2,25 +2,26 @@
 -- every channel. A driver's list without a number twice has at most eight faders on the surface. Assumes nothing.
 use Prim.Native.Nat.{ℕ, zero, suc, _-_, _≤_, _<_}
 use mathlib.Core.Path.{_≡_, refl, ap, _∙_}
-use mathlib.Core.Bool.{Bool, true, false, _&&_}
+use mathlib.Core.Bool.{Bool, true, false}
 use mathlib.Core.List.{List, [], _∷_, map}
 use mathlib.Core.Option.{some}
 use native.Mathlib.Omega.{arith}
 use lib.Dec.{eqb, leb, ltb}
-use lib.ListN.{length, getD, take, length-map}
+use lib.ListN.{length, getD, take, length-take, length-map}
 use lib.Seq.{take-all}
 use lib.IntN.{ℤ}
 use lib.Ieee.{Float, nan}
-use borrow.Author.Tests.{lt-ltb, ltb-true, leb-true, ne-eqb, eqb-false}
+use borrow.Author.Tests.{lt-ltb, ltb-true, le-leb, leb-true, ne-eqb, eqb-false}
 use Rattle.base.specs.Choice.{pick}
+use Rattle.base.specs.Range.{every}
 use Rattle.base.specs.Keyed.{anyOf, allOf, change, keep, noTwice, beside}
 use Rattle.base.specs.KeyedLaws.{each}
 use Rattle.base.specs.RangeLaws.{and-left, and-right}
-use Rattle.base.specs.Pigeon.{pigeon, has-room-for, every-change, once-change, once-keep, left-of, right-of, first-no, rest-no, no-left, no-right}
+use Rattle.base.specs.Pigeon.{pigeon, has-room-for, all-so, all-change, once-change, once-keep, left-of, right-of, first-no, rest-no, no-left, no-right}
 use Rattle.profile.specs.Profile.{records, isKind}
-use Rattle.lookup.specs.Lookup.{sameDest}
 use Rattle.lookup.specs.declared.Destination.{Destination}
-use Rattle.session.specs.Session.{moveOf, placeMove, hasPlace, Turn, isEncoder, isDest, addTo, firstTurn, turn, Hushed, hushedAt, hushedUpTo, targetsOf, hush, otherTarget, unhush, seenStrips, stripsIf, onSurface, stripOf, stripsOf}
+use Rattle.session.specs.Session.{isChannel, moveOf, sameChannel, placeMove, hasPlace, Turn, isEncoder, isDest, sameTurn, addTo, firstTurn, turn, Hushed, hushedAt, hushedUpTo, targetsOf, hush, otherTarget, unhush, seenStrips, stripsIf, goodStrip, sameNumber, onSurface, stripOf, stripsOf}
+pub use Rattle.session.specs.Session.{lowChannel}
 use Rattle.drivers.specs.declared.LiveFader.{LiveFader}
 use Rattle.session.specs.declared.Move.{Move}
 use Rattle.session.specs.declared.Strip.{Strip}
@@ -101,12 +102,6 @@ module _ {A B : Type 0} (h : A → B) where
 
 -- ── the line ──
 
-abbrev pub lowChannel : Move → Bool
-lowChannel m = ltb (m .channel) 16
-
-abbrev pub sameChannel : Move → Move → Bool
-sameChannel a b = eqb (a .channel) (b .channel)
-
 -- channels at most 15, none twice
 pub record WellLine (l : List Move) : Type 0 where
   pub low : allOf lowChannel l ≡ true
@@ -116,20 +111,24 @@ pub line-empty : WellLine []
 unfolding allOf noTwice
 line-empty = record { low = refl; once = refl }
 
+below-16 : (l : List Move) → WellLine l → allOf (λ m. ltb (m .channel) 16) l ≡ true
+below-16 l w = all-so lowChannel (λ m. ltb (m .channel) 16) (λ m h. lt-ltb (m .channel) 16 (omega (arith, leb-true (m .channel) 15 h))) l (w .low)
+
 pub line-fits : (l : List Move) → WellLine l → length l ≤ 16
-line-fits l w = pigeon (λ m. m .channel) 16 l (w .low) (w .once)
+line-fits l w = pigeon (λ m. m .channel) 16 l (below-16 l w) (w .once)
 
 -- there is a place for every channel
 pub line-room : (l : List Move) (ch : ℕ) → WellLine l → ch < 16 → hasPlace ch l ≡ true
 unfolding hasPlace
-line-room l ch w h = key-room (λ m. m .channel) 16 l (moveOf ch nan) (w .low) (w .once) h
+line-room l ch w h = key-room (λ m. m .channel) 16 l (moveOf ch nan) (below-16 l w) (w .once) h
 
 -- and a move that takes it leaves the line so
 pub line-place : (l : List Move) (ch : ℕ) (v : Float) → WellLine l → ch < 16 → WellLine (placeMove ch v l)
 unfolding placeMove
 line-place l ch v w h =
+    let k : leb ch 15 ≡ true = le-leb ch 15 (omega arith) in
     record {
-      low = every-change (λ m. m .channel) ch (λ m. moveOf ch v) (moveOf ch v) (λ m. refl) refl 16 l h (w .low);
+      low = all-change lowChannel (isChannel ch) (λ m. moveOf ch v) (moveOf ch v) k (λ m. k) l (w .low);
       once = once-change (λ m. m .channel) ch (λ m. moveOf ch v) (moveOf ch v) (λ m. refl) refl l (w .once);
     }
 
@@ -148,9 +147,6 @@ unhush-once l target e = once-keep sameHushed (otherTarget target) l e
 
 -- ── the encoders' sums ──
 
-abbrev pub sameTurn : Turn → Turn → Bool
-sameTurn a b = sameDest (a .dest) (b .dest)
-
 pub turn-once : (l : List Turn) (d : Destination) (n : ℤ) → noTwice sameTurn l ≡ true → noTwice sameTurn (turn d n l) ≡ true
 unfolding turn
 turn-once l d n e = same-change sameTurn (isDest d) (addTo n) (firstTurn d n) (λ x. refl) (λ x z. refl) (λ x z. refl) l e
@@ -163,72 +159,71 @@ encoder-in-file p ks n i l h e =
 
 -- ── live lists ──
 
-abbrev pub sameNumber : LiveFader → LiveFader → Bool
-sameNumber a b = eqb (a .number) (b .number)
+abbrev pub sameFader : LiveFader → LiveFader → Bool
+sameFader a b = eqb (a .number) (b .number)
 
 -- numbers 1 to 8, counted from 0
 abbrev place : LiveFader → ℕ
 place f = f .number - 1
 
-places-low : (l : List LiveFader) → allOf onSurface l ≡ true → allOf (λ f. ltb (place f) 8) l ≡ true
-unfolding allOf
-places-low [] e = refl
-places-low (f ∷ l) e =
-    let a : f .number ≤ 8 = leb-true _ _ (and-right (leb 1 (f .number)) (leb (f .number) 8) (left-of (onSurface f) (allOf onSurface l) e)) in
-    rw (lt-ltb (place f) 8 (omega arith)) (places-low l (right-of (onSurface f) (allOf onSurface l) e))
+place-low : (f : LiveFader) → onSurface f ≡ true → ltb (place f) 8 ≡ true
+place-low f e = let a : f .number ≤ 8 = leb-true _ _ (and-right (leb 1 (f .number)) (leb (f .number) 8) e) in lt-ltb (place f) 8 (omega arith)
 
-place-free : (f : LiveFader) (l : List LiveFader) → 1 ≤ f .number → allOf onSurface l ≡ true → anyOf (sameNumber f) l ≡ false →
+place-free : (f : LiveFader) (l : List LiveFader) → 1 ≤ f .number → allOf onSurface l ≡ true → anyOf (sameFader f) l ≡ false →
     anyOf (λ g. eqb (place f) (place g)) l ≡ false
 unfolding allOf anyOf
 place-free f [] h e a = refl
 place-free f (g ∷ l) h e a =
     let k : 1 ≤ g .number = leb-true _ _ (and-left (leb 1 (g .number)) (leb (g .number) 8) (left-of (onSurface g) (allOf onSurface l) e)) in
-    let d : f .number ≡ g .number → ⊥ = eqb-false _ _ (first-no (sameNumber f g) (anyOf (sameNumber f) l) a) in
+    let d : f .number ≡ g .number → ⊥ = eqb-false _ _ (first-no (sameFader f g) (anyOf (sameFader f) l) a) in
     rw (ne-eqb (place f) (place g) (λ q. d (omega arith)))
-    (place-free f l h (right-of (onSurface g) (allOf onSurface l) e) (rest-no (sameNumber f g) (anyOf (sameNumber f) l) a))
+    (place-free f l h (right-of (onSurface g) (allOf onSurface l) e) (rest-no (sameFader f g) (anyOf (sameFader f) l) a))
 
-places-once : (l : List LiveFader) → allOf onSurface l ≡ true → noTwice sameNumber l ≡ true → noTwice (λ f g. eqb (place f) (place g)) l ≡ true
+places-once : (l : List LiveFader) → allOf onSurface l ≡ true → noTwice sameFader l ≡ true → noTwice (λ f g. eqb (place f) (place g)) l ≡ true
 unfolding allOf noTwice
 places-once [] e o = refl
 places-once (f ∷ l) e o =
     let h : 1 ≤ f .number = leb-true _ _ (and-left (leb 1 (f .number)) (leb (f .number) 8) (left-of (onSurface f) (allOf onSurface l) e)) in
     let k : allOf onSurface l ≡ true = right-of (onSurface f) (allOf onSurface l) e in
-    rw (place-free f l h k (no-left (anyOf (sameNumber f) l) (noTwice sameNumber l) o))
-    (places-once l k (no-right (anyOf (sameNumber f) l) (noTwice sameNumber l) o))
+    rw (place-free f l h k (no-left (anyOf (sameFader f) l) (noTwice sameFader l) o))
+    (places-once l k (no-right (anyOf (sameFader f) l) (noTwice sameFader l) o))
 
 -- a list without a number twice has at most eight faders on the surface, so that each of them is a strip
-pub all-strips : (driver : ℕ) (l : List LiveFader) → noTwice sameNumber l ≡ true → stripsOf driver l ≡ map (stripOf driver) (keep onSurface l)
+pub all-strips : (driver : ℕ) (l : List LiveFader) → noTwice sameFader l ≡ true → stripsOf driver l ≡ map (stripOf driver) (keep onSurface l)
 unfolding stripsOf
 all-strips driver l o =
     let k : List LiveFader = keep onSurface l in
     let a : allOf onSurface k ≡ true = all-keep onSurface l in
-    let n : length k ≤ 8 = pigeon place 8 k (places-low k a) (places-once k a (once-keep sameNumber onSurface l o)) in
+    let n : length k ≤ 8 = pigeon place 8 k (all-so onSurface (λ f. ltb (place f) 8) place-low k a) (places-once k a (once-keep sameFader onSurface l o)) in
     take-all 8 (map (stripOf driver) k) (omega (arith, length-map k (stripOf driver)))
 
-abbrev pub lowNumber : Strip → Bool
-lowNumber s = leb 1 (s .number) && leb (s .number) 8
-
-abbrev pub lowDriver : Strip → Bool
-lowDriver s = ltb (s .driver) 16
-
-abbrev pub sameNumbered : Strip → Strip → Bool
-sameNumbered a b = eqb (a .number) (b .number)
-
--- numbers 1 to 8, none twice, drivers at most 15
+-- "8 live faders a bank", "live numbers 1 to 8, live drivers at most 15", "no key twice"
 pub record WellStrips (l : List Strip) : Type 0 where
-  pub low : allOf lowNumber l ≡ true
-  pub drivers : allOf lowDriver l ≡ true
-  pub once : noTwice sameNumbered l ≡ true
+  pub few : length l ≤ 8
+  pub good : allOf goodStrip l ≡ true
+  pub once : noTwice sameNumber l ≡ true
 
-pub strips-well : (driver : ℕ) (l : List LiveFader) → driver < 16 → noTwice sameNumber l ≡ true → WellStrips (stripsOf driver l)
+pub no-strips : WellStrips []
+unfolding allOf noTwice
+no-strips = record { few = omega arith; good = refl; once = refl }
+
+strips-few : (driver : ℕ) (l : List LiveFader) → length (stripsOf driver l) ≤ 8
+unfolding stripsOf
+strips-few driver l = omega (arith, length-take 8 (map (stripOf driver) (keep onSurface l)))
+
+strip-good : (driver : ℕ) (f : LiveFader) → driver < 16 → onSurface f ≡ true → goodStrip (stripOf driver f) ≡ true
+unfolding stripOf every
+strip-good driver f h e =
+    rw (and-left (leb 1 (f .number)) (leb (f .number) 8) e, and-right (leb 1 (f .number)) (leb (f .number) 8) e, le-leb driver 15 (omega arith))
+
+pub strips-well : (driver : ℕ) (l : List LiveFader) → driver < 16 → noTwice sameFader l ≡ true → WellStrips (stripsOf driver l)
 unfolding stripOf
 strips-well driver l h o =
     let k : List LiveFader = keep onSurface l in
-    rw (all-strips driver l o)
     record {
-      low = all-map (stripOf driver) onSurface lowNumber (λ f e. e) k (all-keep onSurface l);
-      drivers = all-map (stripOf driver) onSurface lowDriver (λ f e. lt-ltb driver 16 h) k (all-keep onSurface l);
-      once = once-map (stripOf driver) sameNumber sameNumbered (λ f g. refl) k ∙ once-keep sameNumber onSurface l o;
+      few = strips-few driver l;
+      good = rw (all-strips driver l o) (all-map (stripOf driver) onSurface goodStrip (λ f e. strip-good driver f h e) k (all-keep onSurface l));
+      once = rw (all-strips driver l o) (once-map (stripOf driver) sameFader sameNumber (λ f g. refl) k ∙ once-keep sameFader onSurface l o);
     }
 
 -- a live list that is seen is known

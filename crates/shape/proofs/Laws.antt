@@ -15,12 +15,12 @@ use Rattle.base.specs.Keyed.{at, allOf, noTwice}
 use Rattle.base.specs.KeyedLaws as laws
 use Rattle.base.specs.Pigeon.{left-of, right-of}
 use Rattle.base.specs.BesideLaws.{beside-all, beside-once}
-use Rattle.session.specs.Session.{turnAt, isEncoder}
+use Rattle.session.specs.Session.{turnAt, isEncoder, sameTurn}
 use Rattle.session.specs.declared.Move.{Move}
 use Rattle.session.specs.declared.Strips.{Strips}
 use Rattle.session.specs.declared.Turns.{Turns}
 use Rattle.definition.specs.Faders.{inRange}
-use Rattle.definition.specs.Shape.{shapedStrips, goodTurn, sameTurn, sameWire, shapedTurns}
+use Rattle.definition.specs.Shape.{shapedStrips, goodTurn, sameWire, shapedTurns}
 
 -- what stands past an array's end
 abbrev pub noMove : Move

@@ -1,6 +1,5 @@
 -- `bridge::drain` meets its contract. Assumes nothing.
 use borrow.Author.Needs.{needs}
-use Rattle.bridge.proofs.Fit.{low-again}
 use Rattle.bridge.proofs.drain.Statement.{statement}
 use Rattle.bridge.proofs.drain.Tie as tie
 
@@ -10,7 +9,7 @@ drain-turns-requires c κs = search needs
 drain-line-requires : tie.Need-drain-line-requires
 drain-line-requires c κs =
     let b = c .before .before .before .before .before .before .before .before .before .before .before in
-    (b .pre .0, (b .pre .1 .0, low-again _ (b .pre .1 .1 .0)))
+    (b .pre .0, (b .pre .1 .0, b .pre .1 .1 .0))
 
 returns : tie.Need-returns
 returns c = rw (← c .before .before .before .drain-turns .ensures) (c .drain-line .ensures)

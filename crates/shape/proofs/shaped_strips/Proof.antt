@@ -5,8 +5,8 @@ use lib.ListN.{length}
 use borrow.Author.Tests.{not-true, not-false, eq-eqb, ne-eqb}
 use Rattle.base.specs.Range.{every}
 use Rattle.base.specs.KeyedLaws as laws
-use Rattle.session.specs.Session.{noStrip}
-use Rattle.definition.specs.Shape.{goodStrip, sameNumber, shapedStrips}
+use Rattle.session.specs.Session.{goodStrip, sameNumber, noStrip}
+use Rattle.definition.specs.Shape.{shapedStrips}
 use Rattle.shape.proofs.Laws.{Fine, New, fine-none, new-none, new-more, fine-more, too-many, unfit, twice, all-fine}
 use borrow.Author.Needs.{needs}
 use Rattle.shape.proofs.shaped_strips.Statement.{statement}

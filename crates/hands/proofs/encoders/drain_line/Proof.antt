@@ -4,8 +4,8 @@ use native.Mathlib.Omega.{arith}
 use lib.ListN.{length, take}
 use Rattle.base.specs.KeyedLaws.{long}
 use Rattle.drivers.specs.Shown.{shown}
+use Rattle.session.specs.Session.{lowChannel}
 use Rattle.definition.specs.Faders.{writes}
-use Rattle.definition.specs.Shape.{lowChannel}
 use Rattle.rig.specs.Seen.{rigIn}
 use Rattle.base.specs.KeyedLaws.{each}
 use Rattle.hands.proofs.Laws.{noMove, no-write, one-write, all-writes}

@@ -9,7 +9,7 @@ use native.Mathlib.Omega.{arith}
 use lib.Dec.{ltb, leb}
 use lib.IntN.{ℤ, pos, negsuc, _+ℤ_}
 use lib.Signed.{ltZ, leZ}
-use lib.Ieee.{Float, nan}
+use lib.Ieee.{Float}
 use lib.ListN.{length, getD, take}
 use lib.Seq.{take-suc, length-take-le}
 use mir.Syntax.{w32}
@@ -24,7 +24,7 @@ use Rattle.lookup.specs.declared.Destination.{Destination}
 use Rattle.lookup.specs.declared.Found.the-variants.{To}
 use Rattle.drivers.specs.Talk.{Talk, Got, got, next}
 use Rattle.drivers.specs.declared.Level.{Level}
-use Rattle.session.specs.Session.{Turn, turnAt, turnsUpTo, wiresTo, isDest}
+use Rattle.session.specs.Session.{noMove, Turn, turnAt, turnsUpTo, wiresTo, isDest}
 use Rattle.session.specs.declared.Move.{Move}
 use Rattle.definition.specs.Rig.{Rig, destination}
 use Rattle.definition.specs.Levels.{read, write}
@@ -120,10 +120,6 @@ module _ (p ks : List ℕ) (ns : List ℤ) (t : Talk) where
   all-nudges i n u h l e = let q : i ≡ n = omega arith in subst (λ (m : ℕ). u ≡ nudges (turnsUpTo p m ks ns) t) q e
 
 -- ── the line, one more at a time ──
-
--- what stands past an array's end
-abbrev pub noMove : Move
-noMove = record { channel = 0; level = nan }
 
 module _ (r : Rig) where
   abbrev pub written : Move → Talk → Talk

@@ -19,14 +19,10 @@ use Rattle.base.specs.KeyedLaws as laws
 use Rattle.lookup.specs.Lookup.{destAt}
 use Rattle.session.specs.Session.{Turn, turnAt, turnsUpTo, isEncoder, wiresTo, isDest, addTo, firstTurn, turn, RoomToTurn, Hushed, hushedAt, hushedUpTo, hushedLevel, hush, unhush, hasRoom, sameTarget, isTarget, otherTarget, seenStrips, stripsOr, isStrip, stripAt, noStrip, sameAt}
 use Rattle.drivers.specs.declared.Level.the-variants.{At, Unknown}
-use Rattle.session.specs.declared.Move.{Move}
 use Rattle.session.specs.declared.Strip.{Strip}
 use Rattle.session.specs.declared.Strips.{Strips}
 
 -- what stands past an array's end
-abbrev pub noMove : Move
-noMove = record { channel = 0; level = nan }
-
 abbrev pub noHushed : Hushed
 noHushed = record { target = 0; level = nan }
 

@@ -82,6 +82,10 @@ isChannel ch m = eqb (m .channel) ch
 abbrev pub moveOf : ℕ → Float → Move
 moveOf ch v = record { channel = ch; level = v }
 
+-- what stands past an array's end
+abbrev pub noMove : Move
+noMove = moveOf 0 nan
+
 -- "channels at most 15", and two moves of one channel
 abbrev pub lowChannel : Move → Bool
 lowChannel m = leb (m .channel) 15

@@ -6,7 +6,6 @@ use Prim.Native.Nat.{ℕ, zero, suc, _+_, _≤_, _<_}
 use native.Mathlib.Omega.{arith}
 use native.Mathlib.Numerals.{add-one}
 use lib.Dec.{leb}
-use lib.Ieee.{nan}
 use lib.ListN.{length, take, getD}
 use lib.Seq.{length-take-le}
 use borrow.Author.Tests.{le-leb, lt-leb}
@@ -16,16 +15,12 @@ use Rattle.base.specs.KeyedLaws as laws
 use Rattle.base.specs.Pigeon.{left-of, right-of}
 use Rattle.base.specs.BesideLaws.{beside-all, beside-once}
 use Rattle.session.specs.Session.{turnAt, isEncoder, sameTurn}
-use Rattle.session.specs.declared.Move.{Move}
 use Rattle.session.specs.declared.Strips.{Strips}
 use Rattle.session.specs.declared.Turns.{Turns}
 use Rattle.definition.specs.Faders.{inRange}
 use Rattle.definition.specs.Shape.{shapedStrips, goodTurn, sameWire, shapedTurns}
 
 -- what stands past an array's end
-abbrev pub noMove : Move
-noMove = record { channel = 0; level = nan }
-
 abbrev pub emptyStrips : Strips
 emptyStrips = record { known = false; list = []; count = 0 }
 

@@ -4,9 +4,9 @@ use native.Mathlib.Omega.{arith}
 use lib.ListN.{length}
 use borrow.Author.Tests.{le-leb, lt-leb, eq-eqb, ne-eqb}
 use Rattle.base.specs.KeyedLaws as laws
-use Rattle.session.specs.Session.{lowChannel, sameChannel}
+use Rattle.session.specs.Session.{noMove, lowChannel, sameChannel}
 use Rattle.definition.specs.Shape.{shapedLine}
-use Rattle.shape.proofs.Laws.{noMove, Fine, New, fine-none, new-none, new-more, fine-more, too-many, unfit, twice, all-fine}
+use Rattle.shape.proofs.Laws.{Fine, New, fine-none, new-none, new-more, fine-more, too-many, unfit, twice, all-fine}
 use borrow.Author.Needs.{needs}
 use Rattle.shape.proofs.shaped_line.Statement.{statement}
 use Rattle.shape.proofs.shaped_line.Tie as tie

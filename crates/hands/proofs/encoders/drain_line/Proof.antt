@@ -4,11 +4,11 @@ use native.Mathlib.Omega.{arith}
 use lib.ListN.{length, take}
 use Rattle.base.specs.KeyedLaws.{long}
 use Rattle.drivers.specs.Shown.{shown}
-use Rattle.session.specs.Session.{lowChannel}
+use Rattle.session.specs.Session.{noMove, lowChannel}
 use Rattle.definition.specs.Faders.{writes}
 use Rattle.rig.specs.Seen.{rigIn}
 use Rattle.base.specs.KeyedLaws.{each}
-use Rattle.hands.proofs.Laws.{noMove, no-write, one-write, all-writes}
+use Rattle.hands.proofs.Laws.{no-write, one-write, all-writes}
 use borrow.Author.Needs.{needs}
 use Rattle.hands.proofs.encoders.drain_line.Statement.{statement}
 use Rattle.hands.proofs.encoders.drain_line.Tie as tie

@@ -6,8 +6,7 @@ use lib.ListN.{length, take}
 use borrow.Author.Tests.{eq-eqb, ne-eqb}
 use Rattle.base.specs.Keyed.{at}
 use Rattle.base.specs.KeyedLaws as laws
-use Rattle.session.proofs.Laws.{noMove}
-use Rattle.session.specs.Session.{isChannel}
+use Rattle.session.specs.Session.{isChannel, noMove}
 use borrow.Author.Needs.{needs}
 use Rattle.session.proofs.desk.find_move.Statement.{statement}
 use Rattle.session.proofs.desk.find_move.Tie as tie

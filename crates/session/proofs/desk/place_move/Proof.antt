@@ -2,8 +2,8 @@ use mathlib.Core.Path.{_≡_}
 use Prim.Native.Nat.{_<_}
 use lib.ListN.{length}
 use Rattle.base.specs.KeyedLaws as laws
-use Rattle.session.proofs.Laws.{noMove, changed, seen-roomy, added}
-use Rattle.session.specs.Session.{moveOf, placeMove, hasPlace}
+use Rattle.session.proofs.Laws.{changed, seen-roomy, added}
+use Rattle.session.specs.Session.{moveOf, noMove, placeMove, hasPlace}
 use borrow.Author.Needs.{needs}
 use Rattle.session.proofs.desk.place_move.Statement.{statement}
 use Rattle.session.proofs.desk.place_move.Tie as tie

@@ -1,10 +1,11 @@
 -- Two lists side by side. Assumes nothing.
-use mathlib.Core.Path.{_≡_, refl, ap}
+use mathlib.Core.Path.{_≡_, refl, sym, ap, _∙_}
 use mathlib.Core.Bool.{Bool}
 use mathlib.Core.List.{List, [], _∷_}
-use Prim.Native.Nat.{ℕ, zero, suc}
+use Prim.Native.Nat.{ℕ, zero, suc, _≤_}
 use native.Mathlib.Omega.{arith}
 use lib.ListN.{length, getD, take, set}
+use lib.Seq.{length-take-le}
 use Rattle.base.specs.Keyed.{at, anyOf, allOf, noTwice, beside}
 
 module _ {A B C : Type 0} (f : A → B → C) where
@@ -45,6 +46,14 @@ module _ {A B C : Type 0} (f : A → B → C) where
   beside-at g h r [] ys e = refl
   beside-at g h r (x ∷ xs) [] e = absurd (omega arith)
   beside-at g h r (x ∷ xs) (y ∷ ys) e = rw (r x y, beside-at g h r xs ys (omega arith))
+
+  -- the place that a search among the first n of the first list gave is that among both
+  pub beside-place : (g : C → Bool) (h : A → Bool) → ((x : A) (y : B) → g (f x y) ≡ h x) → (xs : List A) (ys : List B) → length xs ≡ length ys →
+      (n i : ℕ) → n ≤ length xs → i ≡ at h (take n xs) → i ≡ at g (take n (beside f xs ys))
+  beside-place g h r xs ys e n i l q =
+      let a : length (take n xs) ≡ n = length-take-le n xs l in
+      let b : length (take n ys) ≡ n = length-take-le n ys (omega arith) in
+      q ∙ sym (beside-at g h r (take n xs) (take n ys) (omega arith)) ∙ ap (at g) (beside-take n xs ys)
 
   pub beside-any : (g : C → Bool) (h : A → Bool) → ((x : A) (y : B) → g (f x y) ≡ h x) → (xs : List A) (ys : List B) → length xs ≡ length ys →
       anyOf g (beside f xs ys) ≡ anyOf h xs

@@ -25,6 +25,7 @@ use Rattle.lookup.specs.declared.Found.the-variants.{To}
 use Rattle.drivers.specs.Talk.{Talk, Got, got, next}
 use Rattle.drivers.specs.declared.Level.{Level}
 use Rattle.session.specs.Session.{noMove, Turn, turnAt, turnsUpTo, wiresTo, isDest}
+use Rattle.session.specs.SessionLaws.{sumsIn, sums-long, same-sum}
 use Rattle.session.specs.declared.Move.{Move}
 use Rattle.definition.specs.Rig.{Rig, destination}
 use Rattle.definition.specs.Levels.{read, write}
@@ -145,33 +146,25 @@ module _ (r : Rig) where
 module _ (p ks : List ℕ) (ns : List ℤ) (n i : ℕ) (d : Destination) (delta : ℤ) (lk : length ks ≡ 136) (ln : length ns ≡ 136) (within : n ≤ 136)
     (e : i ≡ at (wiresTo p d) (take n ks)) where
   abbrev sums : List Turn
-  sums = beside (turnAt p) ks ns
+  sums = sumsIn p ks ns
 
-  sums-long : length sums ≡ 136
-  sums-long = side.beside-length (turnAt p) ks ns (omega arith) ∙ lk
-
-  same-place : i ≡ at (isDest d) (take n sums)
-  same-place =
-      let a : length (take n ks) ≡ n = length-take-le n ks (omega arith) in
-      let b : length (take n ns) ≡ n = length-take-le n ns (omega arith) in
-      e
-      ∙ sym (side.beside-at (turnAt p) (isDest d) (wiresTo p d) (λ x y. refl) (take n ks) (take n ns) (omega arith))
-      ∙ ap (at (isDest d)) (side.beside-take (turnAt p) n ks ns)
+  same : i ≡ at (isDest d) (take n sums)
+  same = same-sum p ks ns lk ln n i d within e
 
   abbrev verdict : ℕ
   verdict = declinedBy (find (isDest d) (turnsUpTo p n ks ns)) delta (turnsUpTo p n ks ns)
 
   sum-there : i < n → find (isDest d) (turnsUpTo p n ks ns) ≡ some (turnAt p (getD ks i 0) (getD ns i (pos 0)))
   sum-there h =
-      rw (side.beside-take (turnAt p) n ks ns, laws.found (isDest d) (turnAt p 0 (pos 0)) sums n i same-place (omega (arith, sums-long)) h)
+      rw (side.beside-take (turnAt p) n ks ns, laws.found (isDest d) (turnAt p 0 (pos 0)) sums n i same (omega (arith, sums-long p ks ns lk ln)) h)
       (ap some (side.beside-getD (turnAt p) 0 (pos 0) ks ns i (omega arith)))
 
   sum-missing : n ≤ i → find (isDest d) (turnsUpTo p n ks ns) ≡ none
   sum-missing h =
-      rw (side.beside-take (turnAt p) n ks ns) (laws.not-found (isDest d) (turnAt p 0 (pos 0)) sums n i same-place (omega (arith, sums-long)) h)
+      rw (side.beside-take (turnAt p) n ks ns) (laws.not-found (isDest d) (turnAt p 0 (pos 0)) sums n i same (omega (arith, sums-long p ks ns lk ln)) h)
 
   how-many : length (turnsUpTo p n ks ns) ≡ n
-  how-many = rw (side.beside-take (turnAt p) n ks ns) (length-take-le n sums (omega (arith, sums-long)))
+  how-many = rw (side.beside-take (turnAt p) n ks ns) (length-take-le n sums (omega (arith, sums-long p ks ns lk ln)))
 
   module _ (b : Bool) (h : i < n) (q : b ≡ not (inRange (getD ns i (pos 0) +ℤ delta))) where
     pub out-of-range : b ≡ true → 12 ≡ verdict

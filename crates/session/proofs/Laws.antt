@@ -18,6 +18,7 @@ use Rattle.base.specs.BesideLaws as side
 use Rattle.base.specs.KeyedLaws as laws
 use Rattle.lookup.specs.Lookup.{destAt}
 use Rattle.session.specs.Session.{Turn, turnAt, turnsUpTo, isEncoder, wiresTo, isDest, addTo, firstTurn, turn, RoomToTurn, Hushed, hushedAt, hushedUpTo, hushedLevel, hush, unhush, hasRoom, sameTarget, isTarget, otherTarget, seenStrips, stripsOr, isStrip, stripAt, noStrip, sameAt}
+use Rattle.session.specs.SessionLaws.{sumsIn, sums-long, same-sum}
 use Rattle.drivers.specs.declared.Level.the-variants.{At, Unknown}
 use Rattle.session.specs.declared.Strip.{Strip}
 use Rattle.session.specs.declared.Strips.{Strips}
@@ -89,10 +90,7 @@ module _ (target : ℕ) (ts : List ℕ) (ls : List Float) (n i : ℕ) (lt : leng
   pairs-long = side.beside-length hushedAt ts ls (omega arith) ∙ lt
 
   same-place : i ≡ at (isTarget target) (take n pairs)
-  same-place =
-      let a : length (take n ts) ≡ n = length-take-le n ts (omega arith) in
-      let b : length (take n ls) ≡ n = length-take-le n ls (omega arith) in
-      e ∙ sym (side.beside-at hushedAt (isTarget target) (sameTarget target) (λ x y. refl) (take n ts) (take n ls) (omega arith)) ∙ ap (at (isTarget target)) (side.beside-take hushedAt n ts ls)
+  same-place = side.beside-place hushedAt (isTarget target) (sameTarget target) (λ x y. refl) ts ls (omega arith) n i (omega arith) e
 
   pub level-there : i < n → hushedLevel target (hushedUpTo n ts ls) ≡ At (getD ls i nan)
   unfolding hushedLevel
@@ -215,18 +213,10 @@ closing-done target ts₀ ls₀ ts ls k j s n h l =
 module _ (p ks : List ℕ) (ns : List ℤ) (n k i : ℕ) (delta : ℤ) (lk : length ks ≡ 136) (ln : length ns ≡ 136) (room : RoomToTurn p ks ns n k delta)
     (e : i ≡ at (wiresTo p (destAt p k)) (take n ks)) where
   abbrev sums : List Turn
-  sums = beside (turnAt p) ks ns
+  sums = sumsIn p ks ns
 
-  sums-long : length sums ≡ 136
-  sums-long = side.beside-length (turnAt p) ks ns (omega arith) ∙ lk
-
-  same-sum : i ≡ at (isDest (destAt p k)) (take n sums)
-  same-sum =
-      let a : length (take n ks) ≡ n = length-take-le n ks (omega (arith, room .count)) in
-      let b : length (take n ns) ≡ n = length-take-le n ns (omega (arith, room .count)) in
-      e
-      ∙ sym (side.beside-at (turnAt p) (isDest (destAt p k)) (wiresTo p (destAt p k)) (λ x y. refl) (take n ks) (take n ns) (omega arith))
-      ∙ ap (at (isDest (destAt p k))) (side.beside-take (turnAt p) n ks ns)
+  same : i ≡ at (isDest (destAt p k)) (take n sums)
+  same = same-sum p ks ns lk ln n i (destAt p k) (room .count) e
 
   pub sum-there : i < n → turnsUpTo p n ks (set ns i (getD ns i (pos 0) +ℤ delta)) ≡ turn (destAt p k) delta (turnsUpTo p n ks ns)
   unfolding turn
@@ -237,7 +227,7 @@ module _ (p ks : List ℕ) (ns : List ℤ) (n k i : ℕ) (delta : ℤ) (lk : len
       ∙ side.beside-set (turnAt p) ks ns i (getD ks i 0) v
       ∙ ap (λ s. set sums i (addTo delta s)) (sym (side.beside-getD (turnAt p) 0 (pos 0) ks ns i (omega arith))) in
       rw (side.beside-take (turnAt p) n ks (set ns i v), q, side.beside-take (turnAt p) n ks ns)
-      (laws.change-in (isDest (destAt p k)) (turnAt p 0 (pos 0)) sums n i same-sum (addTo delta) (firstTurn (destAt p k) delta) (omega (arith, sums-long, room .count)) h)
+      (laws.change-in (isDest (destAt p k)) (turnAt p 0 (pos 0)) sums n i same (addTo delta) (firstTurn (destAt p k) delta) (omega (arith, sums-long p ks ns lk ln, room .count)) h)
 
   -- it is not there: its place is behind the others, within the array
   pub at-end : n ≤ i → (i ≡ n) × (n < 136)
@@ -250,7 +240,7 @@ module _ (p ks : List ℕ) (ns : List ℤ) (n k i : ℕ) (delta : ℤ) (lk : len
   unfolding turn
   sum-behind h =
       rw (at-end h .0, side.beside-take (turnAt p) (n + 1) (set ks n k) (set ns n delta), side.beside-set (turnAt p) ks ns n k delta, side.beside-take (turnAt p) n ks ns)
-      (laws.change-out (isDest (destAt p k)) (turnAt p 0 (pos 0)) sums n i same-sum (addTo delta) (firstTurn (destAt p k) delta) (omega (arith, sums-long, at-end h .1)) h)
+      (laws.change-out (isDest (destAt p k)) (turnAt p 0 (pos 0)) sums n i same (addTo delta) (firstTurn (destAt p k) delta) (omega (arith, sums-long p ks ns lk ln, at-end h .1)) h)
 
   pub encoders-behind : n ≤ i → allOf (isEncoder p) (take (n + 1) (set ks i k)) ≡ true
   encoders-behind h =

@@ -14,13 +14,14 @@ use lib.Ieee.{Float, nan}
 use borrow.Author.Tests.{lt-ltb, ltb-true, le-leb, leb-true, ne-eqb, eqb-false}
 use Rattle.base.specs.Choice.{pick}
 use Rattle.base.specs.Range.{every}
-use Rattle.base.specs.Keyed.{anyOf, allOf, change, keep, noTwice, beside}
+use Rattle.base.specs.Keyed.{at, anyOf, allOf, change, keep, noTwice, beside}
 use Rattle.base.specs.KeyedLaws.{each}
+use Rattle.base.specs.BesideLaws as side
 use Rattle.base.specs.RangeLaws.{and-left, and-right}
 use Rattle.base.specs.Pigeon.{pigeon, has-room-for, all-so, all-change, once-change, once-keep, left-of, right-of, first-no, rest-no, no-left, no-right}
 use Rattle.profile.specs.Profile.{records, isKind}
 use Rattle.lookup.specs.declared.Destination.{Destination}
-use Rattle.session.specs.Session.{isChannel, moveOf, sameChannel, placeMove, hasPlace, Turn, isEncoder, isDest, sameTurn, addTo, firstTurn, turn, Hushed, hushedAt, hushedUpTo, targetsOf, hush, otherTarget, unhush, seenStrips, stripsIf, goodStrip, sameNumber, onSurface, stripOf, stripsOf}
+use Rattle.session.specs.Session.{isChannel, moveOf, sameChannel, placeMove, hasPlace, Turn, turnAt, isEncoder, wiresTo, isDest, sameTurn, addTo, firstTurn, turn, Hushed, hushedAt, hushedUpTo, targetsOf, hush, otherTarget, unhush, seenStrips, stripsIf, goodStrip, sameNumber, onSurface, stripOf, stripsOf}
 pub use Rattle.session.specs.Session.{lowChannel}
 use Rattle.drivers.specs.declared.LiveFader.{LiveFader}
 use Rattle.session.specs.declared.Move.{Move}
@@ -156,6 +157,18 @@ pub encoder-in-file : (p ks : List ℕ) (n i : ℕ) → n ≤ length ks → i < 
 encoder-in-file p ks n i l h e =
     let k : ℕ = getD ks i 0 in
     ltb-true k (records p) (and-left (ltb k (records p)) (isKind p 3 k) (each (isEncoder p) 0 ks n i l h e))
+
+-- the sums that wait, each beside the record of its encoder
+abbrev pub sumsIn : List ℕ → List ℕ → List ℤ → List Turn
+sumsIn p ks ns = beside (turnAt p) ks ns
+
+module _ (p ks : List ℕ) (ns : List ℤ) (lk : length ks ≡ 136) (ln : length ns ≡ 136) where
+  pub sums-long : length (sumsIn p ks ns) ≡ 136
+  sums-long = side.beside-length (turnAt p) ks ns (omega arith) ∙ lk
+
+  -- a search among the first n of the records is one among the sums
+  pub same-sum : (n i : ℕ) (d : Destination) → n ≤ 136 → i ≡ at (wiresTo p d) (take n ks) → i ≡ at (isDest d) (take n (sumsIn p ks ns))
+  same-sum n i d h e = side.beside-place (turnAt p) (isDest d) (wiresTo p d) (λ x y. refl) ks ns (omega arith) n i (omega arith) e
 
 -- ── live lists ──
 

@@ -8,7 +8,7 @@ use lib.Dec.{eqb, ltb}
 use lib.ListN.{length}
 use lib.IntN.{ℤ}
 use lib.Ieee.{Float}
-use borrow.Author.Tests.{eqb-true, eq-eqb, ne-eqb, ltb-false}
+use borrow.Author.Tests.{eqb-true, eqb-false, eq-eqb, ne-eqb, ltb-false}
 use Rattle.base.specs.Choice.{pick}
 use Rattle.base.specs.RangeLaws.{or-left-no, or-right-no}
 use Rattle.base.specs.Keyed.{beside}
@@ -47,6 +47,7 @@ use Rattle.delivery.specs.Delivery.{outcomeOf, isDone, messagesAfter, callsAfte
 use Rattle.delivery.specs.declared.Outcome.{Outcome}
 use Rattle.delivery.specs.declared.Outcome.the-variants as outcome
 use Rattle.bridge.specs.declared.Stepped as declared
+use Rattle.bridge.specs.declared.which.Hand.{Hand}
 use Rattle.bridge.specs.declared.which.Hand.the-variants as hand
 use Rattle.bridge.specs.Which.{handOf, isTick, isNothing, runs}
 use Rattle.bridge.specs.Bridge.{Delivers, declinedOf, isIdle, movedAt, turnedAt, Moves, Turns}
@@ -224,9 +225,18 @@ runs-low input.PushState h = tt
 runs-low input.PushTransport h = tt
 runs-low input.FlashBank h = tt
 
+-- a fader's hand is no encoder's, and neither is none
+abbrev sort : Hand → ℕ
+sort (hand.Fader ch x) = 0
+sort (hand.Encoder ch n) = 1
+sort hand.None = 2
+
+other : {A : Type 0} (a b : Hand) → eqb (sort a) (sort b) ≡ false → a ≡ b → A
+other a b n h = absurd (eqb-false (sort a) (sort b) n (ap sort h))
+
 pub others-run : (what : Input) → handOf what ≡ hand.None → isNothing what ≡ false → runs what ≡ true
-others-run (input.Midi (event.Fader ch x)) h n = let z : _≡_ {A = ℕ} 0 1 = cc in absurd (omega arith)
-others-run (input.Midi (event.Encoder ch d)) h n = let z : _≡_ {A = ℕ} 0 1 = cc in absurd (omega arith)
+others-run (input.Midi (event.Fader ch x)) h n = other _ _ refl h
+others-run (input.Midi (event.Encoder ch d)) h n = other _ _ refl h
 others-run (input.Midi (event.Button b)) h n = at (b .pressed) n
   where
     at : (b : Bool) → not b ≡ false → b ≡ true
@@ -243,26 +253,26 @@ is-move e ch x = at (e .what)
   where
     at : (w : Input) → handOf w ≡ hand.Fader ch x → _≡_ {A = Timed} (record { time = e .time; what = w }) (movedAt (e .time) ch x)
     at (input.Midi (event.Fader c y)) h = let same : c ≡ ch = cc in let value : y ≡ x = cc in rw (same, value)
-    at (input.Midi (event.Encoder c d)) h = let z : _≡_ {A = ℕ} 0 1 = cc in absurd (omega arith)
-    at (input.Midi (event.Button b)) h = let z : _≡_ {A = ℕ} 0 1 = cc in absurd (omega arith)
-    at (input.Midi event.Other) h = let z : _≡_ {A = ℕ} 0 1 = cc in absurd (omega arith)
-    at input.Tick h = let z : _≡_ {A = ℕ} 0 1 = cc in absurd (omega arith)
-    at input.PushState h = let z : _≡_ {A = ℕ} 0 1 = cc in absurd (omega arith)
-    at input.PushTransport h = let z : _≡_ {A = ℕ} 0 1 = cc in absurd (omega arith)
-    at input.FlashBank h = let z : _≡_ {A = ℕ} 0 1 = cc in absurd (omega arith)
+    at (input.Midi (event.Encoder c d)) h = other _ _ refl h
+    at (input.Midi (event.Button b)) h = other _ _ refl h
+    at (input.Midi event.Other) h = other _ _ refl h
+    at input.Tick h = other _ _ refl h
+    at input.PushState h = other _ _ refl h
+    at input.PushTransport h = other _ _ refl h
+    at input.FlashBank h = other _ _ refl h
 
 pub is-turn : (e : Timed) (ch : ℕ) (n : ℤ) → handOf (e .what) ≡ hand.Encoder ch n → e ≡ turnedAt (e .time) ch n
 is-turn e ch n = at (e .what)
   where
     at : (w : Input) → handOf w ≡ hand.Encoder ch n → _≡_ {A = Timed} (record { time = e .time; what = w }) (turnedAt (e .time) ch n)
     at (input.Midi (event.Encoder c d)) h = let same : c ≡ ch = cc in let delta : d ≡ n = cc in rw (same, delta)
-    at (input.Midi (event.Fader c y)) h = let z : _≡_ {A = ℕ} 0 1 = cc in absurd (omega arith)
-    at (input.Midi (event.Button b)) h = let z : _≡_ {A = ℕ} 0 1 = cc in absurd (omega arith)
-    at (input.Midi event.Other) h = let z : _≡_ {A = ℕ} 0 1 = cc in absurd (omega arith)
-    at input.Tick h = let z : _≡_ {A = ℕ} 0 1 = cc in absurd (omega arith)
-    at input.PushState h = let z : _≡_ {A = ℕ} 0 1 = cc in absurd (omega arith)
-    at input.PushTransport h = let z : _≡_ {A = ℕ} 0 1 = cc in absurd (omega arith)
-    at input.FlashBank h = let z : _≡_ {A = ℕ} 0 1 = cc in absurd (omega arith)
+    at (input.Midi (event.Fader c y)) h = other _ _ refl h
+    at (input.Midi (event.Button b)) h = other _ _ refl h
+    at (input.Midi event.Other) h = other _ _ refl h
+    at input.Tick h = other _ _ refl h
+    at input.PushState h = other _ _ refl h
+    at input.PushTransport h = other _ _ refl h
+    at input.FlashBank h = other _ _ refl h
 
 -- a fader's and an encoder's event, of which the handlers are told channel and value
 pub low-move : (e : Timed) (ch : ℕ) (x : Float) → LowInput (e .what) → handOf (e .what) ≡ hand.Fader ch x → ch < 16

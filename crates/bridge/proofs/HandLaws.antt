@@ -21,6 +21,7 @@ use Rattle.base.specs.Keyed.{at, find, anyOf, allOf, noTwice}
 use Rattle.base.specs.KeyedLaws as keyed
 use Rattle.base.specs.BesideLaws as side
 use Rattle.base.specs.Pigeon.{left-of, right-of}
+use Rattle.base.specs.Tail.{atFront}
 use Rattle.base.specs.declared.Place.{Place}
 use Rattle.base.specs.declared.Place.the-variants as place
 use Rattle.profile.specs.Profile.{records, verdict}
@@ -241,7 +242,7 @@ module _ (p : List ℕ) (s : Session) (ch : ℕ) (delta : ℤ) where
     -- no encoder is there
     pub unwired : (o : Outcome) → o ≡ outcome.Done 0 0 0 false → encoderPlace p (s .bank) (ch + 1) ≡ place.Nothing →
         TurnsAs p s ch delta (record { outcome = o; session = s; changed = false })
-    unfolding seen joined encode
+    unfolding seen joined encode atFront
     unwired o q bare now answers ms cs =
         rw (encoder-ends now answers place.Nothing bare)
         (record { outcome = q; session = refl; still = λ i. absurd (true≢false i); same = λ _. refl; shaped = λ _. e; messages = refl; calls = refl; few = (omega arith, omega arith) })
@@ -258,7 +259,7 @@ module _ (p : List ℕ) (s : Session) (ch : ℕ) (delta : ℤ) where
         encoderPlace p (s .bank) (ch + 1) ≡ place.At k → declinedBy (find (isDest (destAt p k)) turns) delta turns ≡ 0 →
         seenTurns p after ≡ turn (destAt p k) delta turns → allOf (isEncoder p) (take (after .count) (after .records)) ≡ true → after .count ≤ 136 →
         o ≡ outcome.Done 0 0 0 false → TurnsAs p s ch delta (record { outcome = o; session = withTurns s after; changed = true })
-    unfolding seen joined encode
+    unfolding seen joined encode atFront
     turned k after o accepted long low small q d sums wired few r now answers ms cs =
         let x = encoder-ends now answers (place.At k) q in
         let y : step (viewOf p) (seen p s) (turnedAt now ch delta) answers ≡ ends true (foundAt p (place.At k)) =
@@ -372,7 +373,7 @@ pub in-control : (p : List ℕ) (s : Session) (ch : ℕ) (value : Float) (answer
     length (s .opened) ≡ 16 → ch < 16 → (o : Outcome) → o ≡ outcome.Done 0 0 0 false → (x : Session) →
     after.Fades s v (s .bank * 16 + ch) ch value (s .opened) x → KeepsPlaces s x → (ms cs : List ℕ) →
     Moves p s ch value answers ms cs (record { outcome = o; session = x; changed = true }) ms cs
-unfolding joined encode
+unfolding joined encode atFront
 in-control p s ch value answers c i v q m accepted e long low o ho x fades keeps ms cs =
     moved p s ch value answers c i v (start answers (s .opened)) (unasked p s ch value answers c v q m) accepted e long low o ms cs ms cs ho refl refl refl x fades
     keeps

@@ -12,6 +12,7 @@ use borrow.Author.Tests.{eqb-true, eqb-false, eq-eqb, ne-eqb, ltb-false}
 use Rattle.base.specs.Choice.{pick}
 use Rattle.base.specs.RangeLaws.{or-left-no, or-right-no}
 use Rattle.base.specs.Keyed.{beside}
+use Rattle.base.specs.Tail.{atFront}
 use Rattle.protocol.specs.declared.Button.{Button}
 use Rattle.protocol.specs.declared.Event.the-variants as event
 use Rattle.profile.specs.Profile.{verdict}
@@ -141,7 +142,7 @@ declines d why p s ms cs q =
 -- an event that did nothing
 pub does-nothing : (d : Stepped) (p : List ℕ) (s : Session) (ms cs : List ℕ) → wellShaped p s ≡ true → d ≡ stepped (done [] [] 0 false) (seen p s) →
     Delivers d p s ms cs (stays (outcome.Done 0 0 0 false) s) ms cs
-unfolding joined encode
+unfolding joined encode atFront
 does-nothing d p s ms cs w q =
     rw q
     (record {

@@ -6,13 +6,14 @@ use mathlib.Core.Bool.{Bool, true, false}
 use mathlib.Core.List.{List, _++_}
 use lib.ListN.{length, take, drop, length-take}
 use lib.Seq.{take-all}
+use Rattle.base.specs.Tail.{atFront}
 use Rattle.drivers.specs.Talk.{Talk}
 use Rattle.drivers.specs.Bytes.{joined, encode}
 use Rattle.drivers.specs.BytesLaws.{calls-length, messages-length}
 use Rattle.drivers.specs.Shown.{callsIn, messagesIn, stopIn, shown}
 use Rattle.drivers.specs.declared.Call.{Call}
 use Rattle.drivers.specs.declared.Io.{Io}
-use Rattle.delivery.specs.Delivery.{outcomeOf, isDone, onTop, messagesAfter, callsAfter, endIf, undoneBy, Ends}
+use Rattle.delivery.specs.Delivery.{outcomeOf, isDone, messagesAfter, callsAfter, endIf, undoneBy, Ends}
 use Rattle.delivery.specs.declared.Outcome.{Outcome}
 use Rattle.delivery.specs.declared.Outcome.the-variants as outcome
 
@@ -21,9 +22,10 @@ use Rattle.delivery.specs.declared.Outcome.the-variants as outcome
 pub front-long : (n : ℕ) (bs : List ℕ) → n ≤ length bs → n ≡ length (take n bs)
 front-long n bs h = omega (arith, length-take n bs)
 
--- a list that is copied whole stands on top of the old bytes
-pub on-top : (new from old after : List ℕ) → new ≡ from → after ≡ take (length from) from ++ drop (length from) old → after ≡ onTop new old
-on-top new from old after e h = rw e (h ∙ ap (λ (l : List ℕ). l ++ drop (length from) old) (take-all (length from) from (omega arith)))
+-- a list that is copied whole
+pub at-front : (new from old after : List ℕ) → new ≡ from → after ≡ take (length from) from ++ drop (length from) old → after ≡ atFront new old
+unfolding atFront
+at-front new from old after e h = rw e (h ∙ ap (λ (l : List ℕ). l ++ drop (length from) old) (take-all (length from) from (omega arith)))
 
 -- ── a line that stopped ──
 
@@ -76,7 +78,7 @@ module _ (io : Io) (cs ms : List ℕ) (saved : Bool) where
 
   -- its messages and calls are delivered
   pub ends-done : (ms₀ cs₀ ms₁ cs₁ : List ℕ) → io .stop ≡ 0 →
-      ms₁ ≡ onTop (joined (messagesIn (io .sent) ms)) ms₀ → cs₁ ≡ onTop (encode (callsIn (io .asked) cs)) cs₀ →
+      ms₁ ≡ atFront (joined (messagesIn (io .sent) ms)) ms₀ → cs₁ ≡ atFront (encode (callsIn (io .asked) cs)) cs₀ →
       Ends io cs ms saved (record { outcome = outcome.Done (io .sent) (io .asked) (io .read / 16) saved; done = true; opened = io .opened }) ms₀ cs₀ ms₁ cs₁
   unfolding shown
   ends-done ms₀ cs₀ ms₁ cs₁ z e f =

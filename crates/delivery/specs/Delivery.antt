@@ -2,8 +2,9 @@
 use Prim.Native.Nat.{ℕ, _/_, _≤_}
 use mathlib.Core.Path.{_≡_}
 use mathlib.Core.Bool.{Bool, true, false}
-use mathlib.Core.List.{List, _++_}
-use lib.ListN.{length, drop}
+use mathlib.Core.List.{List}
+use lib.ListN.{length}
+use Rattle.base.specs.Tail.{atFront}
 use Rattle.drivers.specs.Talk.{Stop, going, waits, declined, overrun, Talk}
 use Rattle.drivers.specs.Bytes.{joined, encode}
 use Rattle.drivers.specs.Shown.{shown}
@@ -24,18 +25,14 @@ isDone (done ms cs used saved) = true
 isDone (refused why) = false
 isDone (waiting c) = false
 
--- "from the start and old bytes behind"
-abbrev pub onTop : List ℕ → List ℕ → List ℕ
-onTop new old = new ++ drop (length new) old
-
--- the lent buffers after an event that ended so, of what they held: three bytes for a message, sixteen for a call
+-- the lent buffers after an event that ended so, of what they held, "from the start and old bytes behind": three bytes for a message, sixteen for a call
 abbrev pub messagesAfter : Ended → List ℕ → List ℕ
-messagesAfter (done ms cs used saved) old = onTop (joined ms) old
+messagesAfter (done ms cs used saved) old = atFront (joined ms) old
 messagesAfter (refused why) old = old
 messagesAfter (waiting c) old = old
 
 abbrev pub callsAfter : Ended → List ℕ → List ℕ
-callsAfter (done ms cs used saved) old = onTop (encode cs) old
+callsAfter (done ms cs used saved) old = atFront (encode cs) old
 callsAfter (refused why) old = old
 callsAfter (waiting c) old = old
 

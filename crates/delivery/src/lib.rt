@@ -5,9 +5,10 @@ use drivers::Io;
 ghost use mathlib.Core.Path.{_≡_};
 ghost use Prim.Native.Nat.{_*_, _≤_};
 ghost use lib.ListN.{length};
+ghost use Rattle.base.specs.Tail.{atFront};
 ghost use Rattle.drivers.specs.Bytes.{joined, encode};
 ghost use Rattle.drivers.specs.Shown.{stopIn, callsIn, messagesIn};
-ghost use Rattle.delivery.specs.Delivery.{undoneBy, onTop, HasRoom, Ends};
+ghost use Rattle.delivery.specs.Delivery.{undoneBy, HasRoom, Ends};
 
 // Document 01's numbers: done with its counts, refused with the cause, or waiting for the answer to a call.
 pub enum Outcome {
@@ -32,7 +33,7 @@ fn put_messages(from: &[u8], n: usize, messages: &mut [u8])
     requires { ⌜ n ≤ 102 ⌝ }
     requires { ⌜ 306 ≤ length (now from) ⌝ }
     requires { ⌜ 306 ≤ length (now messages) ⌝ }
-    ensures { λ _. ⌜ now (messages .exit) ≡ onTop (joined (messagesIn n (now (from .entry)))) (now (messages .entry)) ⌝ }
+    ensures { λ _. ⌜ now (messages .exit) ≡ atFront (joined (messagesIn n (now (from .entry)))) (now (messages .entry)) ⌝ }
 {
     let end = 3 * n;
     bytes::copy(&from[..end], messages);
@@ -42,7 +43,7 @@ fn put_calls(from: &[u8], n: usize, calls: &mut [u8])
     requires { ⌜ n ≤ 337 ⌝ }
     requires { ⌜ 5392 ≤ length (now from) ⌝ }
     requires { ⌜ 5392 ≤ length (now calls) ⌝ }
-    ensures { λ _. ⌜ now (calls .exit) ≡ onTop (encode (callsIn n (now (from .entry)))) (now (calls .entry)) ⌝ }
+    ensures { λ _. ⌜ now (calls .exit) ≡ atFront (encode (callsIn n (now (from .entry)))) (now (calls .entry)) ⌝ }
 {
     let end = 16 * n;
     bytes::copy(&from[..end], calls);

@@ -3,7 +3,7 @@ use native.Mathlib.Omega.{arith}
 use lib.ListN.{length-take}
 use borrow.Author.Needs.{needs}
 use Rattle.drivers.specs.BytesLaws.{bytes-calls}
-use Rattle.delivery.proofs.Laws.{front-long, on-top}
+use Rattle.delivery.proofs.Laws.{front-long, at-front}
 use Rattle.delivery.proofs.put_calls.Statement.{statement}
 use Rattle.delivery.proofs.put_calls.Tie as tie
 
@@ -27,7 +27,7 @@ returns : tie.Need-returns
 returns c =
     let s = c .before .before .before .before .before .before .before in
     let bytes = c .before .before .before .before .before .before .shared-slice-known .given in
-    on-top _ _ _ _ (bytes-calls (s .args .from .now) (λ j. omega (arith, bytes j)) (s .args .n) (omega (arith, s .pre .0, s .pre .1 .0)))
+    at-front _ _ _ _ (bytes-calls (s .args .from .now) (λ j. omega (arith, bytes j)) (s .args .n) (omega (arith, s .pre .0, s .pre .1 .0)))
     (c .before .before .copy .ensures .1)
 
 pub put-calls-spec : {M : Type 1} → statement M

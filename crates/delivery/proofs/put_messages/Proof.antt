@@ -3,7 +3,7 @@ use native.Mathlib.Omega.{arith}
 use lib.ListN.{length-take}
 use borrow.Author.Needs.{needs}
 use Rattle.drivers.specs.BytesLaws.{bytes-messages}
-use Rattle.delivery.proofs.Laws.{front-long, on-top}
+use Rattle.delivery.proofs.Laws.{front-long, at-front}
 use Rattle.delivery.proofs.put_messages.Statement.{statement}
 use Rattle.delivery.proofs.put_messages.Tie as tie
 
@@ -26,7 +26,7 @@ same-length c = search needs
 returns : tie.Need-returns
 returns c =
     let s = c .before .before .before .before .before .before .before in
-    on-top _ _ _ _ (bytes-messages (s .args .from .now) (s .args .n) (omega (arith, s .pre .0, s .pre .1 .0))) (c .before .before .copy .ensures .1)
+    at-front _ _ _ _ (bytes-messages (s .args .from .now) (s .args .n) (omega (arith, s .pre .0, s .pre .1 .0))) (c .before .before .copy .ensures .1)
 
 pub put-messages-spec : {M : Type 1} → statement M
 put-messages-spec = tie.close (tie.spec mul-end slice-aggregate-copy copy-requires same-length returns)

@@ -43,6 +43,24 @@ lineBy Ignored ch v l = l
 lineBy Held ch v l = l
 lineBy Taken ch v l = placeMove ch v l
 
+-- ── a turn: other sums ──
+
+abbrev pub withTurns : Session → Turns → Session
+withTurns s t =
+    record {
+      bank = s .bank;
+      livedue = s .livedue;
+      liveat = s .liveat;
+      live = s .live;
+      marks = s .marks;
+      moves = s .moves;
+      line = s .line;
+      turns = t;
+      lamps = s .lamps;
+      silenced = s .silenced;
+      opened = s .opened;
+    }
+
 -- ── any other event ──
 
 abbrev pub fewStrips : Strips → Bool

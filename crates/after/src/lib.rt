@@ -17,7 +17,7 @@ ghost use Prim.Native.Nat.{_≤_, _<_};
 ghost use Rattle.base.specs.Choice.{pick};
 ghost use Rattle.session.specs.Session.{hasPlace, seenLine, seenStrips, stripsOr};
 ghost use Rattle.definition.specs.Step.{livesAfter};
-ghost use Rattle.after.specs.After.{movesBy, marksBy, lineBy, marksAfter, TurnsAfter, KnownIf, FewAfter, KeepsPlaces, Fades, Lasts};
+ghost use Rattle.after.specs.After.{movesBy, marksBy, lineBy, withTurns, marksAfter, TurnsAfter, KnownIf, FewAfter, KeepsPlaces, Fades, Lasts};
 
 // What is known before an event runs: the bank that is current after it, whether it is a tick, and whether a refresh of the live bank is due.
 pub struct Setting {
@@ -99,6 +99,34 @@ pub fn faded(
     t.line = line;
     t.opened = opened;
     t
+}
+
+// ── a turn ──
+
+// The session with other sums.
+pub fn turned(session: Session, turns: Turns) -> Session
+    ensures { λ r. ⌜ r ≡ withTurns session turns ⌝ }
+{
+    let live = session.live;
+    let marks = session.marks;
+    let moves = session.moves;
+    let line = session.line;
+    let lamps = session.lamps;
+    let silenced = session.silenced;
+    let opened = session.opened;
+    Session {
+        bank: session.bank,
+        livedue: session.livedue,
+        liveat: session.liveat,
+        live: live,
+        marks: marks,
+        moves: moves,
+        line: line,
+        turns: turns,
+        lamps: lamps,
+        silenced: silenced,
+        opened: opened,
+    }
 }
 
 // ── any other event ──

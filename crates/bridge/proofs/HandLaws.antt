@@ -53,7 +53,7 @@ use Rattle.hands.specs.declared.Verdict.{Verdict}
 use Rattle.delivery.specs.Delivery.{outcomeOf, isDone, messagesAfter, callsAfter, endOf, HasRoom}
 use Rattle.delivery.specs.declared.Outcome.{Outcome}
 use Rattle.delivery.specs.declared.Outcome.the-variants as outcome
-use Rattle.after.specs.After.{keptWith, KeepsPlaces}
+use Rattle.after.specs.After.{keptWith, KeepsPlaces, withTurns}
 use Rattle.after.specs.After as after
 use Rattle.bounds.specs.Well.{Well}
 use Rattle.bounds.specs.Whole.{well-seen}
@@ -186,23 +186,6 @@ module _ (p : List ℕ) (t : Turns) (lk : length (t .records) ≡ 136) (ln : len
           fewer (leb 136 (length (seenTurns p t))) refl (subst (λ (o : Option Turn). declinedBy o delta (seenTurns p t) ≡ 0) no q)
 
 -- ── an encoder ──
-
--- the session with other sums
-abbrev pub withTurns : Session → Turns → Session
-withTurns s t =
-    record {
-      bank = s .bank;
-      livedue = s .livedue;
-      liveat = s .liveat;
-      live = s .live;
-      marks = s .marks;
-      moves = s .moves;
-      line = s .line;
-      turns = t;
-      lamps = s .lamps;
-      silenced = s .silenced;
-      opened = s .opened;
-    }
 
 -- the record in reach is an encoder's, and its number a u16
 module _ (p : List ℕ) (bank number k : ℕ) (q : encoderPlace p bank number ≡ place.At k) where

@@ -65,6 +65,17 @@ fn nothing() -> Outcome
     }
 }
 
+// An event that leaves the session as it was.
+fn stays(outcome: Outcome, session: Session) -> Stepped
+    ensures { λ r. ⌜ r ≡ record { outcome = outcome; session = session; changed = false } ⌝ }
+{
+    Stepped {
+        outcome: outcome,
+        session: session,
+        changed: false,
+    }
+}
+
 // A bank and its faders. A list that is not known counts as empty, whatever its count says.
 fn current_bank(live: Live, bank: u8) -> Current
     requires { ⌜ bank < 16 ⌝ }
@@ -147,11 +158,7 @@ fn take_over(
     let e = delivery::ending(w, &ms, &cs, messages, calls, false);
     let o = e.outcome;
     if !e.done {
-        return Stepped {
-            outcome: o,
-            session: session,
-            changed: false,
-        };
+        return stays(o, session);
     }
     let open = e.opened;
     let t = after::faded(session, verdict, k, channel, value, open);
@@ -197,11 +204,7 @@ fn on_encoder(session: Session, profile: &[u8], channel: u8, delta: i32) -> Step
 {
     let base::Place::At(at) = lookup::encoder_record(profile, session.bank, channel + 1) else {
         let o = nothing();
-        return Stepped {
-            outcome: o,
-            session: session,
-            changed: false,
-        };
+        return stays(o, session);
     };
     let k = at as u16;
     let turns = session.turns;
@@ -210,11 +213,7 @@ fn on_encoder(session: Session, profile: &[u8], channel: u8, delta: i32) -> Step
     let mut sums = turns.sums;
     let why = hands::encoders::turn_declined(profile, &records, &sums, n, k, delta);
     if why != 0 {
-        return Stepped {
-            outcome: Outcome::Refused(why),
-            session: session,
-            changed: false,
-        };
+        return stays(Outcome::Refused(why), session);
     }
     let count = session::turned(profile, &mut records, &mut sums, n, k, delta);
     let turned = Turns {
@@ -222,26 +221,7 @@ fn on_encoder(session: Session, profile: &[u8], channel: u8, delta: i32) -> Step
         sums: sums,
         count: count,
     };
-    let live = session.live;
-    let marks = session.marks;
-    let moves = session.moves;
-    let line = session.line;
-    let lamps = session.lamps;
-    let silenced = session.silenced;
-    let opened = session.opened;
-    let t = Session {
-        bank: session.bank,
-        livedue: session.livedue,
-        liveat: session.liveat,
-        live: live,
-        marks: marks,
-        moves: moves,
-        line: line,
-        turns: turned,
-        lamps: lamps,
-        silenced: silenced,
-        opened: opened,
-    };
+    let t = after::turned(session, turned);
     let o = nothing();
     Stepped {
         outcome: o,
@@ -535,11 +515,7 @@ fn on_other(
     ensures { λ r. ⌜ Delivers (stepOf (viewOf (now (profile .entry))) (seen (now (profile .entry)) session) e (now (answers .entry))) (now (profile .entry)) session (now (messages .entry)) (now (calls .entry)) r (now (messages .exit)) (now (calls .exit)) ⌝ }
 {
     if overfull(session, profile, e) {
-        return Stepped {
-            outcome: Outcome::Refused(11),
-            session: session,
-            changed: false,
-        };
+        return stays(Outcome::Refused(11), session);
     }
     let at = setting_of(session, profile, e);
     let silenced = session.silenced;
@@ -559,11 +535,7 @@ fn on_other(
     let f = t.ended;
     let o = f.outcome;
     if !f.done {
-        return Stepped {
-            outcome: o,
-            session: session,
-            changed: false,
-        };
+        return stays(o, session);
     }
     let left = t.left;
     let hushed = Silenced {
@@ -613,11 +585,7 @@ fn on_event(
     let what = e.what;
     if which::is_nothing(what) | (which::is_tick(what) & is_idle(session, e.time)) {
         let o = nothing();
-        return Stepped {
-            outcome: o,
-            session: session,
-            changed: false,
-        };
+        return stays(o, session);
     }
     match which::hand_of(what) {
         Hand::Fader { channel, value } => {
@@ -641,11 +609,7 @@ pub fn step(
 {
     let why = profile::examine(profile);
     if why != 0 {
-        return Stepped {
-            outcome: Outcome::Refused(why),
-            session: session,
-            changed: false,
-        };
+        return stays(Outcome::Refused(why), session);
     }
     let line = session.line;
     let live = session.live;
@@ -664,25 +628,13 @@ pub fn step(
         silenced.count,
         flash,
     ) {
-        return Stepped {
-            outcome: Outcome::Refused(8),
-            session: session,
-            changed: false,
-        };
+        return stays(Outcome::Refused(8), session);
     }
     if (messages.len() < 306) | (calls.len() < 5392) {
-        return Stepped {
-            outcome: Outcome::Refused(9),
-            session: session,
-            changed: false,
-        };
+        return stays(Outcome::Refused(9), session);
     }
     match event::read_event(event) {
         Read::Known(e) => on_event(session, profile, e, answers, messages, calls),
-        Read::Unknown => Stepped {
-            outcome: Outcome::Refused(10),
-            session: session,
-            changed: false,
-        },
+        Read::Unknown => stays(Outcome::Refused(10), session),
     }
 }

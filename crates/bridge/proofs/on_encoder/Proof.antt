@@ -44,11 +44,16 @@ enum-told c = search needs
 nothing-requires : tie.Need-nothing-requires
 nothing-requires c κs = search needs
 
+stays-requires : tie.Need-stays-requires
+stays-requires c κs = search needs
+
 returns : tie.Need-returns
-returns c =
+returns d =
+    let c = d .before in
     let r = c .before .before .before in
     let b = r .before .before in
-    unwired (b .args .profile .now) (b .args .session) (b .args .channel) (b .args .delta) (b .pre .1 .0) (c .nothing .result) (c .nothing .ensures) (sym (r .encoder-record .ensures) ∙ c .before .enum-told .given .1)
+    rw (d .stays .ensures)
+    (unwired (b .args .profile .now) (b .args .session) (b .args .channel) (b .args .delta) (b .pre .1 .0) (c .nothing .result) (c .nothing .ensures) (sym (r .encoder-record .ensures) ∙ c .before .enum-told .given .1))
 
 -- where the encoder's record is
 here : (c : tie.After-at) →
@@ -96,11 +101,16 @@ why c =
     c .turn-declined .ensures
     ∙ ap (λ (z : ℤ). declinedBy (find (isDest (destAt (b .args .profile .now) (k .before .at .given .0 .0))) l) z l) (toZ-ofZ w32 (b .args .delta) (b .fits .delta))
 
+stays-requires-2 : tie.Need-stays-requires-2
+stays-requires-2 c κs = search needs
+
 returns-2 : tie.Need-returns-2
-returns-2 c =
+returns-2 d =
+    let c = d .before in
     let k = c .before .before .before .before .before .before .before in
     let b = k .before .before .before .before .before in
-    unturned (b .args .profile .now) (b .args .session) (b .args .channel) (b .args .delta) (b .pre .1 .0) (k .before .at .given .0 .0) (c .before .turn-declined .result) (here (k .before)) (why (c .before)) (c .if1 .taken)
+    rw (d .stays2 .ensures)
+    (unturned (b .args .profile .now) (b .args .session) (b .args .channel) (b .args .delta) (b .pre .1 .0) (k .before .at .given .0 .0) (c .before .turn-declined .result) (here (k .before)) (why (c .before)) (c .if1 .taken))
 
 turned-requires : tie.Need-turned-requires
 turned-requires c κs =
@@ -113,24 +123,28 @@ turned-requires c κs =
     turn-room p (s .turns) (records-long b) (sums-long b) (turns-few p s e) (k .before .at .given .0 .0) (toZ w32 (ofZ w32 (b .args .delta))) (turns-wired p s e) (place-encoder p _ _ _ (here (k .before))) (fit k)
     (sym (t .turn-declined .ensures) ∙ c .before .before .if1 .left)
 
+turned-requires-2 : tie.Need-turned-requires-2
+turned-requires-2 c κs = search needs
+
 nothing-requires-2 : tie.Need-nothing-requires-2
 nothing-requires-2 c κs = search needs
 
 returns-3 : tie.Need-returns-3
 returns-3 c =
-    let u = c .before .before .before .before .before .before .before .before in
+    let u = c .before .before in
     let t = u .before .before .before .before in
     let k = t .before .before .before .before .before .before in
     let b = k .before .before .before .before .before in
     let p = b .args .profile .now in
     let s = b .args .session in
     let i = k .before .at .given .0 .0 in
-    turned p s (b .args .channel) (b .args .delta) (b .pre .1 .0) i _ (c .nothing2 .result) (b .pre .0) (opened-long b) (b .pre .1 .1 .0) (b .pre .1 .1 .1) (here (k .before))
+    rw (c .before .turned2 .ensures)
+    (turned p s (b .args .channel) (b .args .delta) (b .pre .1 .0) i _ (c .nothing2 .result) (b .pre .0) (opened-long b) (b .pre .1 .1 .0) (b .pre .1 .1 .1) (here (k .before))
     (sym (why t) ∙ u .before .before .before .if1 .left)
     (u .turned .ensures .0 ∙ ap (λ (z : ℤ). turn (destAt p i) z (seenTurns p (s .turns))) (toZ-ofZ w32 (b .args .delta) (b .fits .delta)))
     (u .turned .ensures .1 .0)
     (u .turned .ensures .1 .1)
-    (c .nothing2 .ensures)
+    (c .nothing2 .ensures))
 
 pub on-encoder-spec : {M : Type 1} → statement M
 on-encoder-spec =
@@ -141,10 +155,13 @@ on-encoder-spec =
     enum-known-at
     enum-told
     nothing-requires
+    stays-requires
     returns
     cast-k
     turn-declined-requires
+    stays-requires-2
     returns-2
     turned-requires
+    turned-requires-2
     nothing-requires-2
     returns-3)

@@ -23,13 +23,18 @@ is-idle-requires c κs = search needs
 nothing-requires : tie.Need-nothing-requires
 nothing-requires c κs = search needs
 
+stays-requires : tie.Need-stays-requires
+stays-requires c κs = search needs
+
 returns : tie.Need-returns
-returns c =
+returns d =
+    let c = d .before in
     let start = c .before .before .before .before .before .before .before .before .before in
-    rw (c .nothing .ensures)
+    rw (d .stays .ensures)
+    (rw (c .nothing .ensures)
     (does-nothing _ (start .args .profile .now) (start .args .session) _ _ (start .pre .1 .0)
     (nothing-done (start .args .profile .now) (start .args .session) (start .args .e) (start .args .answers .now) _ _ _ (c .before .before .before .before .is-nothing .ensures) (c .before .before .before .is-tick .ensures)
-    (c .before .before .is-idle .ensures) (c .before .if1 .taken)))
+    (c .before .before .is-idle .ensures) (c .before .if1 .taken))))
 
 hand-of-requires : tie.Need-hand-of-requires
 hand-of-requires c κs = search needs
@@ -122,6 +127,7 @@ on-event-spec =
     is-tick-requires
     is-idle-requires
     nothing-requires
+    stays-requires
     returns
     hand-of-requires
     enum-known-channel

@@ -18,12 +18,17 @@ opened-long c = search (long, c .good .0 .1 .1 .1 .1 .1 .1 .1 .1 .1 .1 .1)
 overfull-requires : tie.Need-overfull-requires
 overfull-requires c κs = search needs
 
+stays-requires : tie.Need-stays-requires
+stays-requires c κs = search needs
+
 returns : tie.Need-returns
-returns c =
+returns d =
+    let c = d .before in
     let b = c .before .before .before .before .before .before in
-    declines _ 11 (b .args .profile .now) (b .args .session) _ _
+    rw (d .stays .ensures)
+    (declines _ 11 (b .args .profile .now) (b .args .session) _ _
     (step-declines (viewOf (b .args .profile .now)) (seen (b .args .profile .now) (b .args .session)) (b .args .e) (b .args .answers .now) 10
-    (sym (c .before .overfull .ensures) ∙ ap elevenIf (c .if1 .taken)))
+    (sym (c .before .overfull .ensures) ∙ ap elevenIf (c .if1 .taken))))
 
 setting-of-requires : tie.Need-setting-of-requires
 setting-of-requires c κs = let b = c .before .before .before .before .before .before in bank-low (b .args .profile .now) (b .args .session) (b .pre .1 .0) (b .pre .0)
@@ -53,11 +58,16 @@ same-length c = search needs
 same-length-2 : tie.Need-same-length-2
 same-length-2 c = search needs
 
+stays-requires-2 : tie.Need-stays-requires-2
+stays-requires-2 c κs = search needs
+
 returns-2 : tie.Need-returns-2
-returns-2 c =
+returns-2 d =
+    let c = d .before in
     let b = c .before .before .before .before .before .before .before .before .before .before .before .before .before .before .before .before .before .before .before .before .before .before in
-    talked-undone (b .args .profile .now) (b .pre .0) (b .args .session) (well-seen (b .args .profile .now) (b .args .session) (opened-long b) (b .pre .1 .0)) (b .args .e) (b .args .answers .now)
-    (sym (c .before .before .before .before .before .before .before .before .before .before .before .before .before .before .before .before .before .overfull .ensures) ∙ ap elevenIf (c .before .before .before .before .before .before .before .before .before .before .before .before .before .before .before .before .if1 .left)) _ _ (c .before .before .before .before .before .before .before .talk .result) _ _ _ _ (c .before .before .before .before .before .before .before .talk .ensures) (not-true _ (c .if2 .taken))
+    rw (d .stays2 .ensures)
+    (talked-undone (b .args .profile .now) (b .pre .0) (b .args .session) (well-seen (b .args .profile .now) (b .args .session) (opened-long b) (b .pre .1 .0)) (b .args .e) (b .args .answers .now)
+    (sym (c .before .before .before .before .before .before .before .before .before .before .before .before .before .before .before .before .before .overfull .ensures) ∙ ap elevenIf (c .before .before .before .before .before .before .before .before .before .before .before .before .before .before .before .before .if1 .left)) _ _ (c .before .before .before .before .before .before .before .talk .result) _ _ _ _ (c .before .before .before .before .before .before .before .talk .ensures) (not-true _ (c .if2 .taken)))
 
 after-requires : tie.Need-after-requires
 after-requires c κs =
@@ -83,9 +93,11 @@ on-other-spec =
     tie.close
     (tie.spec
     overfull-requires
+    stays-requires
     returns
     setting-of-requires
     talk-requires
+    stays-requires-2
     same-length
     same-length-2
     returns-2

@@ -64,29 +64,45 @@ passed r =
 examine-requires : tie.Need-examine-requires
 examine-requires c κs = search needs
 
+stays-requires : tie.Need-stays-requires
+stays-requires c κs = search needs
+
 returns : tie.Need-returns
-returns c = declined-by (c .before) _ (rw (← c .before .examine .ensures, ne-eqb _ _ (c .if1 .taken))) (c .if1 .taken)
+returns d =
+    let c = d .before in
+    rw (d .stays .ensures)
+    (declined-by (c .before) _ (rw (← c .before .examine .ensures, ne-eqb _ _ (c .if1 .taken))) (c .if1 .taken))
 
 shaped-parts-requires : tie.Need-shaped-parts-requires
 shaped-parts-requires c κs = search needs
 
+stays-requires-2 : tie.Need-stays-requires-2
+stays-requires-2 c κs = search needs
+
 returns-2 : tie.Need-returns-2
-returns-2 c =
+returns-2 d =
+    let c = d .before in
     let x = c .before in
-    declined-by (examined x) 8
+    rw (d .stays2 .ensures)
+    (declined-by (examined x) 8
     (rw (← examined x .examine .ensures, eq-eqb _ _ (x .before .before .before .before .before .before .before .before .before .if1 .left), sym (told x) ∙ not-true (x .shaped-parts .result) (c .if2 .taken)))
-    (λ q. omega arith)
+    (λ q. omega arith))
+
+stays-requires-3 : tie.Need-stays-requires-3
+stays-requires-3 c κs = search needs
 
 returns-3 : tie.Need-returns-3
-returns-3 c =
+returns-3 d =
+    let c = d .before in
     let x = c .before .before in
-    declined-by (examined x) 9
+    rw (d .stays3 .ensures)
+    (declined-by (examined x) 9
     (rw (
       ← examined x .examine .ensures,
       eq-eqb _ _ (x .before .before .before .before .before .before .before .before .before .if1 .left),
       sym (told x) ∙ not-false (x .shaped-parts .result) (c .before .if2 .left),
       c .if3 .taken,
-    )) (λ q. omega arith)
+    )) (λ q. omega arith))
 
 read-event-requires : tie.Need-read-event-requires
 read-event-requires c κs = search needs
@@ -128,27 +144,36 @@ returns-4 c =
     passes-on (b .args .profile .now) (b .args .session) (b .args .event .now) (b .args .answers .now) _ _ (passed r) (r .read-event .result) _ (r .read-event .ensures)
     (c .before .before .before .before .before .before .before .before .e .given .1) _ _ _ _ _ (c .before .before .before .before .on-event .ensures)
 
+stays-requires-4 : tie.Need-stays-requires-4
+stays-requires-4 c κs = search needs
+
 returns-5 : tie.Need-returns-5
-returns-5 c =
+returns-5 d =
+    let c = d .before in
     let r = c .before .before in
     let b = begun (examined (r .before .before .before)) in
-    declines _ 10 _ _ _ _
+    rw (d .stays4 .ensures)
+    (declines _ 10 _ _ _ _
     (unread (b .args .profile .now) (b .args .session) (b .args .event .now) (b .args .answers .now) _ _ (passed r) (r .read-event .result) (r .read-event .ensures)
-    (c .enum-told .given .1))
+    (c .enum-told .given .1)))
 
 pub step-spec : {M : Type 1} → statement M
 step-spec =
     tie.close
     (tie.spec
     examine-requires
+    stays-requires
     returns
     shaped-parts-requires
+    stays-requires-2
     returns-2
+    stays-requires-3
     returns-3
     read-event-requires
     enum-known-e
     on-event-requires
     enum-told
+    stays-requires-4
     same-length
     same-length-2
     returns-4

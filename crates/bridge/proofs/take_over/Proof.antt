@@ -84,16 +84,21 @@ same-length c = search needs
 same-length-2 : tie.Need-same-length-2
 same-length-2 c = search needs
 
+stays-requires : tie.Need-stays-requires
+stays-requires c κs = search needs
+
 returns : tie.Need-returns
-returns c =
+returns d =
+    let c = d .before in
     let e = c .before .before .before .before .before .before in
     let f = e .before .before .before .before .before .before in
     let b = begun f in
     let h = e .ending .ensures in
-    unmoved (b .args .profile .now) (b .args .session) (b .args .channel) (b .args .value) (b .args .answers .now) (bank-at f .current-bank .result)
+    rw (d .stays .ensures)
+    (unmoved (b .args .profile .now) (b .args .session) (b .args .channel) (b .args .value) (b .args .answers .now) (bank-at f .current-bank .result)
     (bank-at f .current-bank .ensures) (f .fader .result .verdict) _ (ran f) (b .pre .0) (b .pre .1 .0) (opened-long b) (b .pre .1 .1 .1 .1 .0)
     (e .ending .result .outcome) _ _ _ _ (h .outcome (b .args .answers .now)) (h .messages (b .args .answers .now)) (h .calls (b .args .answers .now))
-    (sym (h .done (b .args .answers .now)) ∙ not-true (e .ending .result .done) (c .if1 .taken))
+    (sym (h .done (b .args .answers .now)) ∙ not-true (e .ending .result .done) (c .if1 .taken)))
 
 faded-requires : tie.Need-faded-requires
 faded-requires c κs =
@@ -135,6 +140,7 @@ take-over-spec =
     fresh-requires
     fader-requires
     ending-requires
+    stays-requires
     same-length
     same-length-2
     returns

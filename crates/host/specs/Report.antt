@@ -16,11 +16,15 @@ use Rattle.host.specs.declared.Report.{Report}
 abbrev pub noCall : Call
 noCall = record { kind = 0; driver = 0; name = 0; argument = 0; level = 0 }
 
--- 0: done, with its counts. 1: refused, "number, zero counts". 2: "the outcome is "waiting" with that call", and zero counts
+-- "number, zero counts"
+abbrev pub undoneBy : ℕ → ℕ → Call → Report
+undoneBy kind number call = record { kind = kind; number = number; saved = false; messages = 0; calls = 0; used = 0; call = call }
+
+-- 0: done, with its counts. 1: refused, with its number. 2: "the outcome is "waiting" with that call", and zero counts
 abbrev pub reportOf : Outcome → Report
 reportOf (Done m c u s) = record { kind = 0; number = 0; saved = s; messages = m; calls = c; used = u; call = noCall }
-reportOf (Refused n) = record { kind = 1; number = n; saved = false; messages = 0; calls = 0; used = 0; call = noCall }
-reportOf (Waiting c) = record { kind = 2; number = 0; saved = false; messages = 0; calls = 0; used = 0; call = c }
+reportOf (Refused n) = undoneBy 1 n noCall
+reportOf (Waiting c) = undoneBy 2 0 c
 
 -- what `bridge::step` promises, with the outcome in numbers; s₁ is the session after the event. Whether it is another one is not told
 abbrev pub Reports : Stepped → List ℕ → Session → List ℕ → List ℕ → Report → Session → List ℕ → List ℕ → Type 0

@@ -11,7 +11,7 @@ ghost use Rattle.profile.specs.Profile.{verdict};
 ghost use Rattle.session.specs.Session.{freshSession};
 ghost use Rattle.state.specs.Saved.{restoring, saving, savedTo};
 ghost use Rattle.definition.specs.Whole.{whole};
-ghost use Rattle.host.specs.Report.{noCall, reportOf, Reports};
+ghost use Rattle.host.specs.Report.{noCall, undoneBy, reportOf, Reports};
 
 // What became of an event. Kind 0: done, with how many messages it sent, calls it made and answers it used, and whether there is something to save. 1: refused, with
 // document 01's number. 2: waiting for the answer to a call.
@@ -38,6 +38,21 @@ fn no_call() -> Call
     }
 }
 
+// An event that did not end: all counts are 0.
+fn undone(kind: u8, number: u8, call: Call) -> Report
+    ensures { λ r. ⌜ r ≡ undoneBy kind number call ⌝ }
+{
+    Report {
+        kind: kind,
+        number: number,
+        saved: false,
+        messages: 0,
+        calls: 0,
+        used: 0,
+        call: call,
+    }
+}
+
 fn numbers(o: Outcome) -> Report
     ensures { λ r. ⌜ r ≡ reportOf o ⌝ }
 {
@@ -61,25 +76,9 @@ fn numbers(o: Outcome) -> Report
         }
         Outcome::Refused(n) => {
             let none = no_call();
-            Report {
-                kind: 1,
-                number: n,
-                saved: false,
-                messages: 0,
-                calls: 0,
-                used: 0,
-                call: none,
-            }
+            undone(1, n, none)
         }
-        Outcome::Waiting(c) => Report {
-            kind: 2,
-            number: 0,
-            saved: false,
-            messages: 0,
-            calls: 0,
-            used: 0,
-            call: c,
-        },
+        Outcome::Waiting(c) => undone(2, 0, c),
     }
 }
 

@@ -21,8 +21,7 @@ use Rattle.base.specs.RangeLaws.{and-left, and-right}
 use Rattle.base.specs.Pigeon.{pigeon, has-room-for, all-so, all-change, once-change, once-keep, left-of, right-of, first-no, rest-no, no-left, no-right}
 use Rattle.profile.specs.Profile.{records, isKind}
 use Rattle.lookup.specs.declared.Destination.{Destination}
-use Rattle.session.specs.Session.{isChannel, moveOf, sameChannel, placeMove, hasPlace, Turn, turnAt, isEncoder, wiresTo, isDest, sameTurn, addTo, firstTurn, turn, Hushed, hushedAt, hushedUpTo, targetsOf, hush, otherTarget, unhush, seenStrips, stripsIf, goodStrip, sameNumber, onSurface, stripOf, stripsOf}
-pub use Rattle.session.specs.Session.{lowChannel}
+use Rattle.session.specs.Session.{isChannel, moveOf, sameChannel, placeMove, hasPlace, Turn, turnAt, isEncoder, wiresTo, isDest, sameTurn, addTo, firstTurn, turn, Hushed, hushedAt, hushedUpTo, targetsOf, hush, otherTarget, unhush, seenStrips, stripsIf, goodStrip, sameNumber, onSurface, stripOf, stripsOf, lowChannel}
 use Rattle.drivers.specs.declared.LiveFader.{LiveFader}
 use Rattle.session.specs.declared.Move.{Move}
 use Rattle.session.specs.declared.Strip.{Strip}

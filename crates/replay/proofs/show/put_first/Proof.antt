@@ -1,5 +1,4 @@
 -- `replay::show::put_first` meets its contract. Assumes nothing.
-use native.Mathlib.Omega.{arith}
 use borrow.Table.Elements.{length-take-le}
 use mathlib.Core.Path.{sym}
 use borrow.Author.Needs.{needs}

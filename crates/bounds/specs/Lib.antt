@@ -10,6 +10,7 @@ pub mod Hands
 pub mod LongerLaws
 pub mod Presses
 pub mod Profiles
+pub mod ReadBack
 pub mod Reading
 pub mod RoomLaws
 pub mod Silencing

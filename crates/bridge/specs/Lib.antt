@@ -3,3 +3,4 @@ pub mod Which
 pub mod Acts
 pub mod Bridge
 pub mod CountsLaws
+pub mod BackLaws

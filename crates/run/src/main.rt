@@ -4,6 +4,7 @@
 ghost use Prim.Native.Nat.{_+_, _*_, _≤_, _<_};
 ghost use mathlib.Core.Path.{_≡_};
 ghost use lib.ListN.{length, take};
+ghost use Rattle.drivers.specs.Shown.{callsIn, messagesIn};
 ghost use Rattle.io.specs.Counts.{Counts};
 ghost use Rattle.definition.specs.Step.{seen};
 ghost use Rattle.definition.specs.Whole.{whole};
@@ -57,7 +58,7 @@ fn put_done(
     requires { ⌜ sent ≤ 102 ⌝ }
     requires { ⌜ asked ≤ 337 ⌝ }
     ensures { λ r. ⌜ r ≤ 32960 ⌝ }
-    ensures { λ r. ⌜ take r (now (out .exit)) ≡ doneText n sent asked (now (messages .entry)) (now (calls .entry)) ⌝ }
+    ensures { λ r. ⌜ take r (now (out .exit)) ≡ doneText n (messagesIn sent (now (messages .entry))) (callsIn asked (now (calls .entry))) ⌝ }
 {
     let a = printing::put_step(out, b"event", n);
     let b = printing::put_counts(out, a, sent, asked);

@@ -1,6 +1,8 @@
 -- `run::one` meets its contract. Assumes nothing.
+use mathlib.Core.Path.{_∙_}
 use borrow.Author.Needs.{needs}
 use Rattle.bridge.specs.CountsLaws.{delivers-few, delivers-used}
+use Rattle.run.proofs.Laws.{said-so}
 use Rattle.run.proofs.one.Statement.{statement}
 use Rattle.run.proofs.one.Tie as tie
 
@@ -27,9 +29,11 @@ same-length c = search needs
 
 returns : tie.Need-returns
 returns c =
-    let d = c .before .before .before .before .before .before .before .before .before .step .ensures in
     let o = c .before .before .put-outcome .ensures in
-    (o .0, (rw (o .1 .1 .1) (delivers-used _ _ _ _ _ _ _ _ _ _ _ d), (rw (o .1 .0, d .outcome, d .messages, d .calls), d .session)))
+    let e = c .before .before .before .before .before .before .before .before .before in
+    let d = e .step .ensures in
+    let a = e .before .before .before .before .before .before .before .args in
+    (o .0, (rw (o .1 .1 .1) (delivers-used _ _ _ _ _ _ _ _ _ _ _ d), (o .1 .0 ∙ said-so (a .n) _ _ _ _ _ _ _ _ _ _ _ d, d .session)))
 
 pub one-spec : {M : Type 1} → statement M
 one-spec =

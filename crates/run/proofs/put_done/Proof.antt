@@ -3,6 +3,7 @@ use mathlib.Core.List.{[]}
 use native.Mathlib.Omega.{arith}
 use borrow.Author.Needs.{needs}
 use Rattle.run.specs.Said.{doneText}
+use Rattle.drivers.specs.BytesLaws.{calls-length, messages-length}
 use Rattle.drivers.specs.Shown.{callsIn, messagesIn}
 use Rattle.printing.specs.Text.{lineEnd, messageLines, callLines, stepWords, countWords}
 use Rattle.printing.specs.Ascii.{ascii}
@@ -42,7 +43,7 @@ returns c =
     let u = v .before .before .before .before .before .before in
     let a = u .args in
     let p = u .pre in
-    (omega (arith, v .put-step .ensures .0, w .put-counts .ensures .0, x .put-end .ensures .0, y .put-messages .ensures .0, z .put-calls .ensures .0, p), then5 [] (stepWords (ascii "event") (a .n)) (countWords (a .sent) (a .asked)) lineEnd (messageLines (messagesIn (a .sent) (a .messages .now))) (callLines (callsIn (a .asked) (a .calls .now))) (v .put-step .ensures .1) (w .put-counts .ensures .1) (x .put-end .ensures .1) (y .put-messages .ensures .1) (z .put-calls .ensures .1))
+    (omega (arith, v .put-step .ensures .0, w .put-counts .ensures .0, x .put-end .ensures .0, y .put-messages .ensures .0, z .put-calls .ensures .0, p), rw (messages-length (a .sent) (a .messages .now), calls-length (a .asked) (a .calls .now)) (then5 [] (stepWords (ascii "event") (a .n)) (countWords (a .sent) (a .asked)) lineEnd (messageLines (messagesIn (a .sent) (a .messages .now))) (callLines (callsIn (a .asked) (a .calls .now))) (v .put-step .ensures .1) (w .put-counts .ensures .1) (x .put-end .ensures .1) (y .put-messages .ensures .1) (z .put-calls .ensures .1)))
 
 pub put-done-spec : {M : Type 1} → statement M
 put-done-spec =

@@ -8,6 +8,7 @@ ghost use Rattle.drivers.specs.Shown.{callsIn, messagesIn};
 ghost use Rattle.io.specs.Counts.{Counts};
 ghost use Rattle.definition.specs.Step.{seen};
 ghost use Rattle.definition.specs.Whole.{whole};
+ghost use Rattle.delivery.specs.Delivery.{outcomeOf, isDone};
 ghost use Rattle.bridge.specs.Bridge.{Few, usedIn};
 ghost use Rattle.run.specs.Said.{doneText, outcomeText, eventText, goesOn};
 use delivery::Outcome;
@@ -125,6 +126,8 @@ fn one(
     ensures { λ r. ⌜ 16 * r .said .used ≤ length (now (answers .entry)) ⌝ }
     ensures { λ r. ⌜ take (r .said .text) (now (out .exit)) ≡ eventText n ((whole (now (profile .entry)) session (now (event .entry)) (now (answers .entry)) 306 5392) .ended) ⌝ }
     ensures { λ r. ⌜ seen (now (profile .entry)) (r .session) ≡ (whole (now (profile .entry)) session (now (event .entry)) (now (answers .entry)) 306 5392) .kept ⌝ }
+    ensures { λ r. ⌜ r .said .goes ≡ isDone ((whole (now (profile .entry)) session (now (event .entry)) (now (answers .entry)) 306 5392) .ended) ⌝ }
+    ensures { λ r. ⌜ r .said .used ≡ usedIn (outcomeOf ((whole (now (profile .entry)) session (now (event .entry)) (now (answers .entry)) 306 5392) .ended)) ⌝ }
 {
     let mut messages = [0u8; 306];
     let mut calls = [0u8; 5392];

@@ -1,8 +1,9 @@
 -- `run::one` meets its contract. Assumes nothing.
-use mathlib.Core.Path.{_∙_}
+use mathlib.Core.Path.{ap, _∙_}
 use borrow.Author.Needs.{needs}
+use Rattle.bridge.specs.Bridge.{usedIn}
 use Rattle.bridge.specs.CountsLaws.{delivers-few, delivers-used}
-use Rattle.run.proofs.Laws.{said-so}
+use Rattle.run.proofs.Laws.{said-so, goes-so}
 use Rattle.run.proofs.one.Statement.{statement}
 use Rattle.run.proofs.one.Tie as tie
 
@@ -33,7 +34,7 @@ returns c =
     let e = c .before .before .before .before .before .before .before .before .before in
     let d = e .step .ensures in
     let a = e .before .before .before .before .before .before .before .args in
-    (o .0, (rw (o .1 .1 .1) (delivers-used _ _ _ _ _ _ _ _ _ _ _ d), (o .1 .0 ∙ said-so (a .n) _ _ _ _ _ _ _ _ _ _ _ d, d .session)))
+    (o .0, (rw (o .1 .1 .1) (delivers-used _ _ _ _ _ _ _ _ _ _ _ d), (o .1 .0 ∙ said-so _ _ _ _ _ _ _ _ _ _ _ d (a .n), (d .session, (o .1 .1 .0 ∙ goes-so _ _ _ _ _ _ _ _ _ _ _ d, o .1 .1 .1 ∙ ap usedIn (d .outcome))))))
 
 pub one-spec : {M : Type 1} → statement M
 one-spec =

@@ -27,7 +27,7 @@ use Rattle.event.specs.declared.Read.{Read}
 use Rattle.event.specs.declared.Read.the-variants.{Known, Unknown}
 use Rattle.event.specs.declared.Timed.{Timed}
 use Rattle.definition.specs.Shape.{shapedLine, shapedStrips, shapedTurns, shapedSilenced, wellShaped}
-use Rattle.definition.specs.Step.{Kept, seen, done, refused, Stepped, stepped, step}
+use Rattle.definition.specs.Step.{Kept, Ended, seen, done, refused, Stepped, stepped, step}
 use Rattle.definition.specs.Whole.{whole, offered}
 use Rattle.bounds.specs.Drivers.{Each, no-more, one-more}
 use Rattle.bounds.specs.Well.{WiredTurn, Well}
@@ -118,6 +118,21 @@ not-done : (why : ℕ) {ms : List (List ℕ)} {cs : List Call} {used : ℕ} {sav
 not-done why q = let z : _≡_ {A = ℕ} 0 1 = cc in omega arith
 
 module _ (p : List ℕ) (s : Session) (record-of answers : List ℕ) (messages calls : ℕ) where
+  -- what is true of every refusal, and of the event whatever it is, is true of the event that is offered
+  pub whole-so : (Q : Ended → Type 0) → ((why : ℕ) → Q (refused why)) → ((e : Timed) → Q ((step (viewOf p) (seen p s) e answers) .ended)) →
+      Q ((whole p s record-of answers messages calls) .ended)
+  unfolding whole
+  whole-so Q refuses runs =
+      of (eqb (verdict p) 0) _ _ (of (wellShaped p s) _ _ (of (ltb messages 306 || ltb calls 5392) _ _ (refuses 9) (read-at (readOf record-of))) (refuses 8)) (refuses (verdict p))
+    where
+      of : (b : Bool) (x y : Stepped) → Q (x .ended) → Q (y .ended) → Q ((pick b x y) .ended)
+      of true x y h k = h
+      of false x y h k = k
+
+      read-at : (r : Read) → Q ((offered r p (seen p s) answers) .ended)
+      read-at (Known e) = runs e
+      read-at Unknown = refuses 10
+
   -- it passed the numbers 1 to 10, and is the event that its record says
   record Passed (x : Stepped) : Type 0 where
     accepted : verdict p ≡ 0

@@ -1,23 +1,16 @@
 -- What a host reads from the lent buffers behind a done event, as many records as the outcome counts, are the event's messages and calls. Assumes nothing.
 use Prim.Native.Nat.{ℕ}
 use mathlib.Core.Path.{_≡_, sym, subst}
-use mathlib.Core.Bool.{Bool, true, false, _||_}
 use mathlib.Core.List.{List}
-use lib.Dec.{eqb, ltb}
 use lib.ListN.{length, drop}
-use Rattle.base.specs.Choice.{pick}
 use Rattle.base.specs.Tail.{atFront}
-use Rattle.profile.specs.Profile.{verdict}
 use Rattle.lookup.specs.View.{viewOf}
 use Rattle.drivers.specs.Shown.{callsIn, messagesIn}
 use Rattle.drivers.specs.Bytes.{joined, encode}
 use Rattle.session.specs.declared.Session.{Session}
-use Rattle.event.specs.Event.{readOf}
-use Rattle.event.specs.declared.Read.{Read}
-use Rattle.event.specs.declared.Read.the-variants.{Known, Unknown}
-use Rattle.definition.specs.Shape.{wellShaped}
 use Rattle.definition.specs.Step.{Ended, done, refused, waiting, Stepped, seen}
-use Rattle.definition.specs.Whole.{whole, offered}
+use Rattle.definition.specs.Whole.{whole}
+use Rattle.bounds.specs.Whole.{whole-so}
 use Rattle.bounds.specs.ReadBack.{ThreeOf, step-three, messages-back, calls-back}
 use Rattle.delivery.specs.Delivery.{messagesAfter, callsAfter}
 use Rattle.bridge.specs.Bridge.{Delivers}
@@ -36,20 +29,8 @@ back-of (refused why) ms cs h = tt
 back-of (waiting c) ms cs h = tt
 
 module _ (p : List ℕ) (s : Session) (answers : List ℕ) where
-  offered-three : (r : Read) → ThreeOf ((offered r p (seen p s) answers) .ended)
-  offered-three (Known e) = step-three (viewOf p) (seen p s) e answers
-  offered-three Unknown = tt
-
-  pick-three : (b : Bool) (x y : Stepped) → ThreeOf (x .ended) → ThreeOf (y .ended) → ThreeOf ((pick b x y) .ended)
-  pick-three true x y h k = h
-  pick-three false x y h k = k
-
   whole-three : (event : List ℕ) (messages calls : ℕ) → ThreeOf ((whole p s event answers messages calls) .ended)
-  unfolding whole
-  whole-three event messages calls =
-      pick-three (eqb (verdict p) 0) _ _
-      (pick-three (wellShaped p s) _ _ (pick-three (ltb messages 306 || ltb calls 5392) _ _ tt (offered-three (readOf event))) tt)
-      tt
+  whole-three event messages calls = whole-so p s event answers messages calls ThreeOf (λ why. tt) (λ e. step-three (viewOf p) (seen p s) e answers)
 
   pub delivers-back : (event : List ℕ) (messages calls : ℕ) (ms cs : List ℕ) (r : declared.Stepped) (ms₁ cs₁ : List ℕ) →
       Delivers (whole p s event answers messages calls) p s ms cs r ms₁ cs₁ → BackOf ((whole p s event answers messages calls) .ended) ms₁ cs₁

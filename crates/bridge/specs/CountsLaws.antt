@@ -1,21 +1,14 @@
 -- What the promise of an event says of its outcome's counts: they fit the lent buffers, and the answers used are among those offered. Assumes nothing.
 use Prim.Native.Nat.{ℕ, _*_, _≤_}
 use mathlib.Core.Path.{sym, subst}
-use mathlib.Core.Bool.{Bool, true, false, _||_}
 use mathlib.Core.List.{List}
 use native.Mathlib.Omega.{arith}
-use lib.Dec.{eqb, ltb}
 use lib.ListN.{length}
-use Rattle.base.specs.Choice.{pick}
-use Rattle.profile.specs.Profile.{verdict}
 use Rattle.lookup.specs.View.{viewOf}
 use Rattle.session.specs.declared.Session.{Session}
-use Rattle.event.specs.Event.{readOf}
-use Rattle.event.specs.declared.Read.{Read}
-use Rattle.event.specs.declared.Read.the-variants.{Known, Unknown}
-use Rattle.definition.specs.Shape.{wellShaped}
 use Rattle.definition.specs.Step.{Ended, done, refused, waiting, Stepped, seen}
-use Rattle.definition.specs.Whole.{whole, offered}
+use Rattle.definition.specs.Whole.{whole}
+use Rattle.bounds.specs.Whole.{whole-so}
 use Rattle.bounds.specs.Bounds.{UsedOf}
 use Rattle.bounds.specs.Room.{FewOf}
 use Rattle.bounds.specs.Used.{step-used}
@@ -43,20 +36,9 @@ used-of all (refused why) h = omega arith
 used-of all (waiting c) h = omega arith
 
 module _ (p : List ℕ) (s : Session) (answers : List ℕ) where
-  offered-used : (r : Read) → UsedOf (length answers) ((offered r p (seen p s) answers) .ended)
-  offered-used (Known e) = step-used (viewOf p) (seen p s) e answers
-  offered-used Unknown = tt
-
-  pick-used : (b : Bool) (x y : Stepped) → UsedOf (length answers) (x .ended) → UsedOf (length answers) (y .ended) → UsedOf (length answers) ((pick b x y) .ended)
-  pick-used true x y h k = h
-  pick-used false x y h k = k
-
   whole-used : (event : List ℕ) (messages calls : ℕ) → UsedOf (length answers) ((whole p s event answers messages calls) .ended)
-  unfolding whole
   whole-used event messages calls =
-      pick-used (eqb (verdict p) 0) _ _
-      (pick-used (wellShaped p s) _ _ (pick-used (ltb messages 306 || ltb calls 5392) _ _ tt (offered-used (readOf event))) tt)
-      tt
+      whole-so p s event answers messages calls (UsedOf (length answers)) (λ why. tt) (λ e. step-used (viewOf p) (seen p s) e answers)
 
   pub delivers-used : (event : List ℕ) (messages calls : ℕ) (ms cs : List ℕ) (r : declared.Stepped) (ms₁ cs₁ : List ℕ) →
       Delivers (whole p s event answers messages calls) p s ms cs r ms₁ cs₁ → 16 * usedIn (r .outcome) ≤ length answers

@@ -7,6 +7,7 @@ pub mod BoundsLaws
 pub mod Channels
 pub mod Events
 pub mod Hands
+pub mod Keeping
 pub mod LongerLaws
 pub mod Presses
 pub mod Profiles

@@ -14,7 +14,7 @@ use Rattle.event.specs.declared.Timed.{Timed}
 use Rattle.definition.specs.Step.{Kept, Left, done, waiting, finish, finished, stepIf, refusal, step}
 use Rattle.bounds.specs.Longer.{Again, run, asked, GoesOn}
 use Rattle.bounds.specs.Events.{act-takes}
-use Rattle.bounds.specs.Used.{any-view, any-kept}
+use Rattle.bounds.specs.Keeping.{any-view, any-kept}
 use Rattle.bounds.specs.Steady.{gotMore, Longer, steady-rules, steady-by}
 
 module _ (v : View) (k : Kept) (e : Timed) (answers : List ℕ) where

@@ -4,7 +4,7 @@ use mathlib.Core.Path.{_≡_, refl, ap, _∙_}
 use mathlib.Core.Bool.{Bool, true, false}
 use mathlib.Core.List.{List, [], _∷_, _++_, append-assoc}
 use native.Mathlib.Omega.{arith}
-use lib.Dec.{eqb, leb}
+use lib.Dec.{eqb}
 use lib.ListN.{length, getD}
 use lib.Seq.{getD-append-add}
 use Rattle.base.specs.Words.{le64}
@@ -13,17 +13,14 @@ use Rattle.protocol.specs.Protocol.{bytesOf}
 use Rattle.protocol.specs.declared.Out.{Out}
 use Rattle.protocol.specs.declared.Out.the-variants.{Led, Position}
 use Rattle.lookup.specs.View.{View}
-use Rattle.drivers.specs.Answers.{answerOf, isUnfit, isDone}
-use Rattle.drivers.specs.Talk.{Stop, going, waits, declined, overrun, Talk, Got, next, start, ask, askAt, askRoom, askLeft, askFit, plainCall, opening, isOpen, openFor, openIf, openedBy, askIf, useCall, send, sendAt, sendRoom}
+use Rattle.drivers.specs.Talk.{Stop, going, waits, declined, overrun, Talk, Got, start, opening}
 use Rattle.drivers.specs.Shown.{callBytes, callAt, callsIn, messageAt, messagesIn}
 use Rattle.drivers.specs.Bytes.{joined, encode}
 use Rattle.drivers.specs.declared.Call.{Call}
 use Rattle.event.specs.declared.Timed.{Timed}
 use Rattle.definition.specs.Step.{Kept, Left, Ended, done, refused, waiting, finish, stepIf, refusal, act, step}
 use Rattle.bounds.specs.Drivers.{Each, no-more, one-more}
-use Rattle.bounds.specs.Spending.{Rules, Spent, spending}
-use Rattle.bounds.specs.Events.{act-takes}
-use Rattle.bounds.specs.Used.{Any, any-view, any-kept}
+use Rattle.bounds.specs.Keeping.{Keeps, act-keeps}
 
 -- ── three bytes ──
 
@@ -36,8 +33,8 @@ ThreeOf (done ms cs used saved) = Each Three ms
 ThreeOf (refused why) = Unit {0}
 ThreeOf (waiting c) = Unit {0}
 
-abbrev Threes : ℕ → ℕ → Talk → Type 0
-Threes m c t = Each Three (t .messages)
+abbrev Threes : Talk → Type 0
+Threes t = Each Three (t .messages)
 
 out-three : (out : Out) → Three (bytesOf out)
 unfolding bytesOf
@@ -48,78 +45,14 @@ one-behind : (l : List (List ℕ)) (x : List ℕ) → Each Three l → Three x �
 one-behind [] x h k = one-more k no-more
 one-behind (y ∷ l) x (one-more j h) k = one-more j (one-behind l x h k)
 
-ask-three : (c : Call) (t : Talk) → Threes 0 0 t → Threes 0 0 ((ask c t) .talk)
-unfolding ask
-ask-three c t h = at (t .stop)
-  where
-    fit-at : (b : Bool) → Threes 0 0 ((askFit b c (answerOf (t .left) (c .kind)) t) .talk)
-    fit-at true = h
-    fit-at false = h
-
-    left-at : (b : Bool) → Threes 0 0 ((askLeft b c t) .talk)
-    left-at true = h
-    left-at false = fit-at (isUnfit (answerOf (t .left) (c .kind)))
-
-    room-at : (b : Bool) → Threes 0 0 ((askRoom b c t) .talk)
-    room-at true = h
-    room-at false = left-at (eqb (length (t .left)) 0)
-
-    at : (s : Stop) → Threes 0 0 ((askAt s c t) .talk)
-    at going = room-at (leb 337 (length (t .calls)))
-    at (waits d) = h
-    at declined = h
-    at overrun = h
-
-send-three : (out : Out) (t : Talk) → Threes 0 0 t → Threes 0 0 (send out t)
-unfolding send
-send-three out t h = at (t .stop)
-  where
-    room-at : (b : Bool) → Threes 0 0 (sendRoom b (bytesOf out) t)
-    room-at true = h
-    room-at false = one-behind (t .messages) (bytesOf out) h (out-three out)
-
-    at : (s : Stop) → Threes 0 0 (sendAt s (bytesOf out) t)
-    at going = room-at (leb 102 (length (t .messages)))
-    at (waits d) = h
-    at declined = h
-    at overrun = h
-
-open-three : (driver name : ℕ) (t : Talk) → Threes 0 0 t → Threes 0 0 ((openFor driver name t) .talk)
-unfolding openFor next opening
-open-three driver name t h = at (isOpen driver t)
-  where
-    c : Call
-    c = plainCall 0 driver name 0
-
-    by : (b : Bool) → Threes 0 0 ((openedBy b driver ((ask c t) .talk)) .talk)
-    by true = ask-three c t h
-    by false = ask-three c t h
-
-    at : (b : Bool) → Threes 0 0 ((openIf b driver name t) .talk)
-    at true = h
-    at false = by (isDone ((ask c t) .value .answer))
-
-use-three : (c : Call) (t : Talk) → Threes 0 0 t → Threes 0 0 ((useCall c t) .talk)
-unfolding useCall next
-use-three c t h = at ((openFor (c .driver) (c .name) t) .value)
-  where
-    u : Talk
-    u = (openFor (c .driver) (c .name) t) .talk
-
-    k : Threes 0 0 u
-    k = open-three (c .driver) (c .name) t h
-
-    at : (b : Bool) → Threes 0 0 ((askIf b c u) .talk)
-    at true = ask-three c u k
-    at false = k
-
-three-spent : Spent Any Threes
-three-spent =
+threes : Keeps Threes
+unfolding opening
+threes =
     record {
-      less = λ p q i. i;
-      say = λ {m} {c} {t} out i. send-three out t i;
-      opens = λ {m} {c} {t} driver name d i. open-three driver name t i;
-      uses = λ {m} {c} {t} x d i. use-three x t i;
+      stops = λ s t h. h;
+      takes = λ c t f h. h;
+      opens = λ driver t h. h;
+      says = λ out t h. one-behind (t .messages) (bytesOf out) h (out-three out);
     }
 
 finish-three : (s : Stop) (v : View) (k : Kept) (r : Got Left) → Each Three (r .talk .messages) → ThreeOf ((finish s v k r) .ended)
@@ -135,8 +68,7 @@ step-three v k e answers = at (eqb (refusal (e .what) v k (e .time)) 0)
     at : (b : Bool) → ThreeOf ((stepIf b (refusal (e .what) v k (e .time)) e v k answers) .ended)
     at true =
         let r = act (e .what) v k (e .time) (start answers (k .opened)) in
-        finish-three (r .talk .stop) v k r
-        (act-takes (spending three-spent) v k (any-view v) (any-kept k) (e .what) (e .time) .pays 0 0 (start answers (k .opened)) no-more)
+        finish-three (r .talk .stop) v k r (act-keeps Threes threes v k e answers no-more)
     at false = tt
 
 -- ── messages, read back ──

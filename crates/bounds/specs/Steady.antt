@@ -18,7 +18,7 @@ use Rattle.drivers.specs.declared.Call.{Call}
 use Rattle.drivers.specs.declared.Answer.{Answer}
 use Rattle.bounds.specs.Longer.{Starts, Again}
 use Rattle.bounds.specs.Spending.{Rules, Takes}
-use Rattle.bounds.specs.Used.{Any}
+use Rattle.bounds.specs.Keeping.{Any}
 use Rattle.bounds.specs.Reading.{answer-same, count-as, items-same}
 
 -- the same line with more answers behind those that are left

@@ -1,3 +1,5 @@
+#![tactic(auto)]
+
 // The session with what an event left.
 ghost use Rattle.std.specs.Prelude.{◌≡◌, true, [], map, ◌≤◌, ◌<◌};
 ghost use Rattle.base.specs.Choice.{pick};

@@ -1,3 +1,5 @@
+#![tactic(auto)]
+
 // Selecting a bank: `select_bank`, `step_bank` and `flash_bank` of bridge.rs. `there` is the bank that becomes the current one, and `home` where the fader of
 // the flash's row was last seen there.
 ghost use Rattle.std.specs.Prelude.{◌≡◌, true, ◌≤◌, ◌<◌, take};

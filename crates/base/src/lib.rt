@@ -1,3 +1,5 @@
+#![tactic(auto)]
+
 // What every other crate shares: little-endian numbers in bytes, and the answer of a search. The definitions and laws are in specs/.
 ghost use Rattle.std.specs.Prelude.{◌≡◌, ◌+◌, ◌≤◌, length};
 ghost use Rattle.base.specs.Words.{le16, le32, le64, put16, put32, put64};

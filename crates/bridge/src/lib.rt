@@ -1,3 +1,5 @@
+#![tactic(auto)]
+
 // The bridge: a Mackie surface in, drivers out. An event runs on scratch buffers; only a finished one is delivered to the lent memory. The port of bridge.rs.
 mod acts;
 mod buttons;

@@ -1,3 +1,5 @@
+#![tactic(auto)]
+
 // What a button is bound to: by the profile, or else by the bank's driver.
 ghost use Rattle.std.specs.Prelude.{◌≡◌, ◌≤◌};
 ghost use Rattle.drivers.specs.Talk.{got};

@@ -1,3 +1,5 @@
+#![tactic(auto)]
+
 // How an event ends. It runs on scratch buffers; one that stopped is thrown away whole, and only a finished one's messages and calls are delivered to the
 // lent memory.
 ghost use Rattle.std.specs.Prelude.{◌≡◌, ◌*◌, ◌≤◌, length};

@@ -1,3 +1,5 @@
+#![tactic(auto)]
+
 // The line to the devices in one event: calls go out, and each takes the next answer of the list that the host offers; messages for the surface are
 // collected beside them. Once an answer is missing or does not fit, the line stops, and every further call and message does nothing. The port of
 // drivers/mod.rs as the bridge sees it.

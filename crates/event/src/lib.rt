@@ -1,3 +1,5 @@
+#![tactic(auto)]
+
 // An event of the host with its time: the record of sixteen bytes, read.
 ghost use Rattle.std.specs.Prelude.{◌≡◌, ◌≤◌, length, get_or};
 ghost use Rattle.event.specs.Event.{event_ok, input_of, read_of};

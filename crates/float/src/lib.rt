@@ -1,3 +1,5 @@
+#![tactic(auto)]
+
 // The f64 leaves of the bridge, for every f64: each is an equation with a definition of specs/Leaf.antt, and none asks anything of a value.
 // `round`, `floor`, `abs`, `clamp` and casts to whole numbers are worked out, most of them from the bits.
 ghost use Rattle.std.specs.Prelude.{◌≡◌, ◌+◌, ◌≤◌, length, from_bits, to_bits};

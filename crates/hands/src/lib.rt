@@ -1,3 +1,5 @@
+#![tactic(auto)]
+
 // What the operator's hands do: a move of a fader (`faders`), a turn of an encoder and the drain (`encoders`).
 use drivers::Io;
 

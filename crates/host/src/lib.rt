@@ -1,3 +1,5 @@
+#![tactic(auto)]
+
 // The bridge for a program in C or Rust: the entry over a session that the program keeps, and what it needs beside it. An enum cannot cross, so that an outcome
 // is told in numbers. `wrapper/` has the header, and a safe layer in Rust.
 ghost use Rattle.std.specs.Prelude.{◌≡◌, length};

@@ -1,3 +1,5 @@
+#![tactic(auto)]
+
 // A live bank's faders, asked of its driver right after a change and then once a second: `refresh_live` of bridge.rs.
 ghost use Rattle.std.specs.Prelude.{◌≡◌, ◌≤◌, take};
 ghost use Rattle.profile.specs.Profile.{verdict};

@@ -1,3 +1,5 @@
+#![tactic(auto)]
+
 // Every lookup that the bridge makes in a profile. `specs/View.antt` offers them to the definition as one record.
 ghost use Rattle.std.specs.Prelude.{◌≡◌, ◌∷◌, [], ◌++◌, ◌+◌, ◌<◌, ◌≤◌, ltb, length, get_or, take};
 ghost use Rattle.profile.specs.Profile.{records, bank_count, verdict};

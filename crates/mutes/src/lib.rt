@@ -1,3 +1,5 @@
+#![tactic(auto)]
+
 // Mute, on gear with and without a mute of its own. Gear without one is silenced by its level, which is kept until it is handed back: targets and levels are
 // the first `hushed` of two arrays, which are lent.
 ghost use Rattle.std.specs.Prelude.{◌≡◌, true, ◌≤◌, take};

@@ -1,3 +1,5 @@
+#![tactic(auto)]
+
 // Text in a buffer: each function writes at `at` and returns where the text then ends. The buffer then holds, up to there, what stood before `at` and
 // the text of `specs/Text`; nothing is said of what stands behind.
 //

@@ -1,3 +1,5 @@
+#![tactic(auto)]
+
 // The profile: records of 32 bytes, and the numbers 1 to 6 with which it is declined.
 ghost use Rattle.std.specs.Prelude.{◌≡◌};
 ghost use Rattle.profile.specs.Profile.{verdict, size_ok};

@@ -1,3 +1,5 @@
+#![tactic(auto)]
+
 // Examines the profiles of its input, and writes for each its name and the number with which it is declined, 0 if it is accepted.
 //
 // A profile is a byte and as many bytes of its name, then its length in four bytes, the lowest first, and as many bytes of records.

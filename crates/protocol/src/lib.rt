@@ -1,3 +1,5 @@
+#![tactic(auto)]
+
 // Mackie Control: the language the surface speaks. Faders are 14-bit pitch bend, encoders are relative controllers, buttons are notes, and each lamp is
 // lit by sending its button's note back. The port of protocol.rs.
 ghost use Rattle.std.specs.Prelude.{◌≡◌, ◌<◌, ◌≤◌, length, get_or};

@@ -1,3 +1,5 @@
+#![tactic(auto)]
+
 // Runs the answers and the restores of its input, and writes a line for each: what the bridge gets of a call's answer, or what a restore leaves of a
 // session.
 //

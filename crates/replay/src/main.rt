@@ -1,3 +1,5 @@
+#![tactic(auto)]
+
 // Prints what becomes of each case of a recording, as the oracle's `replay` does: replay [--dump] <RECORDING. A recording that is cut off, or has a part
 // for which there is no room here, ends the program there.
 //

@@ -1,3 +1,5 @@
+#![tactic(auto)]
+
 // What a handler may know of the rig: the current bank with its faders (`here`), and what it reads and writes of a destination (`levels`). The sections
 // "drivers" and "state" of bridge.rs.
 use drivers::Io;

@@ -1,3 +1,5 @@
+#![tactic(auto)]
+
 // The program of document 01: profile.bin, events.bin and answers.bin, the first 65,536 bytes of each, and what becomes of each event.
 //
 // What is written of an event is proved to be the definition's text of it (`specs/Said`); that the system writes what it is handed is not.

@@ -1,3 +1,5 @@
+#![tactic(auto)]
+
 // Paging through the scenes of the current device, and loading them.
 mod load;
 mod names;

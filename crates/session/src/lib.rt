@@ -1,3 +1,5 @@
+#![tactic(auto)]
+
 // What the bridge keeps between two events: the port of `struct Bridge`. Plain fields in groups, by who may change them; no enum, so that the session can
 // cross to C. What stands in a list past its count is free.
 mod desk;

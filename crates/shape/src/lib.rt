@@ -1,3 +1,5 @@
+#![tactic(auto)]
+
 // Number 8: whether a session is well shaped. The tests that no key is there twice compare each pair: at most 120 pairs of channels, 28 of live numbers in a
 // bank, 9,180 of destinations and 32,640 of targets, where the lists are full.
 ghost use Rattle.std.specs.Prelude.{◌≡◌, true, ◌≤◌, eqb, take};

@@ -1,3 +1,5 @@
+#![tactic(auto)]
+
 // Solo: only one fader's destination plays, within its own group. On gear with and without a mute of its own.
 pub mod adds;
 mod peers;

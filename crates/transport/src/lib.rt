@@ -1,3 +1,5 @@
+#![tactic(auto)]
+
 // The transport lamps of a bank: lit while the app is there at all, since a bound button that does nothing should not look available. One ask for each
 // player, not for each button. The port of `push_transport` of bridge.rs.
 ghost use Rattle.std.specs.Prelude.{◌≡◌, [], ◌+◌, ◌≤◌, ◌<◌, length};

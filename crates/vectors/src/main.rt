@@ -1,3 +1,5 @@
+#![tactic(auto)]
+
 // Runs the codec over messages and prints what each says and what is sent back for it. The input has a message to a line, in hexadecimal; what
 // follows a '#' is a remark, and a line that starts with one is no message.
 use libc::STDOUT_FILENO;

@@ -37,7 +37,9 @@ cut-minus : (x : Float) → T (minus x) → to_unsigned 32 x ≡ 0
 unfolding to_unsigned
 cut-minus nan t = refl
 cut-minus (inf true) t = refl
+cut-minus (inf false) t = elim t [ ]
 cut-minus (fin true m e) t = refl
+cut-minus (fin false m e) t = elim t [ ]
 
 pub cut-negative : (b : ℕ) → 2 ^ 63 ≤ b → to_unsigned 32 (of_bits binary64 b) ≡ 0
 cut-negative b h = cut-minus (of_bits binary64 b) (bits-minus b h)

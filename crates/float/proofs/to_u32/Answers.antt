@@ -5,9 +5,9 @@ use lib.Ieee.Compare.{differs_from_itself}
 use lib.Ieee.Bits.{of_bits-to_bits}
 use Rattle.float.proofs.Bits.{no_nan, exponent, fraction}
 use Rattle.float.proofs.Cut.{cut-negative, cut_low, cut-mid, cut_high, fits-32}
-use Rattle.float.proofs.to_u32.Statement.{statement}
-use Rattle.float.proofs.to_u32.Tie as tie
+use Rattle.float.proofs.to_u32.Goals as goal
 
+-- `place::to_u32` meets its contract. Each return has a lemma whose premises are the tests that lead there, as the code has them; `search` finds them in what is known there. Assumes nothing.
 nan-case : (x : Float) → ne x x ≡ true → 0 ≡ to_unsigned 32 x
 unfolding to_unsigned
 nan-case x h = sym (ap (to_unsigned 32) (differs_from_itself x (subst T (sym h) tt)))
@@ -35,49 +35,25 @@ module _ (x : Float) (g : fits binary64 x ≡ true) where
   mid-case : b < 2 ^ 63 → 1023 ≤ exponent b → exponent b ≤ 1054 → (fraction b + 2 ^ 52) / 2 ^ (1075 - exponent b) ≡ to_unsigned 32 x
   mid-case h k l = by_bits ((fraction b + 2 ^ 52) / 2 ^ (1075 - exponent b)) (cut-mid b h k l)
 
-returns : tie.Need-returns
-returns c = search nan-case
+pub returns-then-x : goal.returns-then-x
+returns-then-x c = search nan-case
 
-float-to-bits-bits : tie.Need-float-to-bits-bits
-float-to-bits-bits c = search no_nan
+pub float_to_bits-bits : goal.float_to_bits-bits
+float_to_bits-bits c = search no_nan
 
-returns-2 : tie.Need-returns-2
-returns-2 c = search minus-case
+pub returns-then-bits-ge9223372036854775808 : goal.returns-then-bits-ge9223372036854775808
+returns-then-bits-ge9223372036854775808 c = search minus-case
 
-returns-3 : tie.Need-returns-3
-returns-3 c = search low-case
+pub returns-then-exponent-lt1023 : goal.returns-then-exponent-lt1023
+returns-then-exponent-lt1023 c = search low-case
 
-returns-4 : tie.Need-returns-4
-returns-4 c = search high-case
+pub returns-then-exponent-gt1054 : goal.returns-then-exponent-gt1054
+returns-then-exponent-gt1054 c = search high-case
 
-add-digits : tie.Need-overflow-add-digits
-add-digits c = search rules
-
-sub-result : tie.Need-overflow-sub-result
-sub-result c = search rules
-
-shr-result : tie.Need-overflow-shr-result
-shr-result c = search rules
-
-cast-result : tie.Need-overflow-cast-result
-cast-result c =
-    let b = to_bits binary64 c.before.before.before.before.args.x in
+pub overflow_cast-result : goal.overflow_cast-result
+overflow_cast-result c =
+    let b = to_bits binary64 c.args.x in
     record { fits = fits-32 (fraction b + 2 ^ 52) (1075 - exponent b) (omega arith) (omega arith) }
 
-returns-5 : tie.Need-returns-5
-returns-5 c = search mid-case
-
-pub to-u32-spec : {M : Type 1} → statement M
-to-u32-spec =
-    tie.close
-    (tie.spec
-    returns
-    float-to-bits-bits
-    returns-2
-    returns-3
-    returns-4
-    add-digits
-    sub-result
-    shr-result
-    cast-result
-    returns-5)
+pub returns : goal.returns
+returns c = search mid-case

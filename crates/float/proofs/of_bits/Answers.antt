@@ -1,8 +1,7 @@
 use Rattle.std.proofs.Common.{◌≡◌, ℕ, ◌%◌, ◌^◌, ◌<◌, ◌≤◌, not, T, sym, refl, ◌∙◌, subst, rules, le-ltb, lt-ltb}
 use lib.Ieee.{Float, nan, inf, fin, binary64, div, of_bits, is_nan, nan_bits}
 use lib.Ieee.Bits.{nan_bits_is, nan_bits_above}
-use Rattle.float.proofs.of_bits.Statement.{statement}
-use Rattle.float.proofs.of_bits.Tie as tie
+use Rattle.float.proofs.of_bits.Goals as goal
 
 quotient : div binary64 (of_bits binary64 0) (of_bits binary64 0) ≡ nan
 unfolding div of_bits
@@ -20,14 +19,8 @@ no_nan n h = rw (nan_bits_above binary64 n, le-ltb _ _ h) tt
 by-nan : (n : ℕ) → 0x7ff0_0000_0000_0000 < n % 2 ^ 63 → div binary64 (of_bits binary64 0) (of_bits binary64 0) ≡ of_bits binary64 n
 by-nan n h = quotient ∙ is-nan (of_bits binary64 n) (subst T (sym (sym (nan_bits_is binary64 n) ∙ nan_bits_above binary64 n ∙ lt-ltb _ _ h)) tt)
 
-float-from-bits-result : tie.Need-float-from-bits-result
-float-from-bits-result c = no_nan c.before.args.n c.if1.false
+pub float_from_bits-result : goal.float_from_bits-result
+float_from_bits-result c = no_nan c.args.n c.if-n-gt9218868437227405312.false
 
-returns : tie.Need-returns
-returns c = by-nan c.before.args.n c.if1.true
-
-returns-2 : tie.Need-returns-2
-returns-2 c = search rules
-
-pub of-bits-spec : {M : Type 1} → statement M
-of-bits-spec = tie.close (tie.spec float-from-bits-result returns returns-2)
+pub returns-then-n-gt9218868437227405312 : goal.returns-then-n-gt9218868437227405312
+returns-then-n-gt9218868437227405312 c = by-nan c.args.n c.if-n-gt9218868437227405312.true

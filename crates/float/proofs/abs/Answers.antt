@@ -5,9 +5,9 @@ use lib.Ieee.{Float, nan, inf, fin, binary64, up, down, lt, eq, neg, fits, of_bi
 use lib.Ieee.Fits.{and_l, up_pos}
 use lib.Ieee.Back.{whole_unique}
 use Rattle.float.specs.Leaf.{abs_of, f0}
-use Rattle.float.proofs.abs.Statement.{statement}
-use Rattle.float.proofs.abs.Tie as tie
+use Rattle.float.proofs.abs.Goals as goal
 
+-- `abs` drops the sign. Below zero the value is negated, a zero of either sign is +0, and what is left has no sign.
 none : (a d : ℕ) → ltb a (0 * d) ≡ true → ⊥
 none a d h = omega (arith, ltb-true a (0 * d) h)
 
@@ -48,14 +48,11 @@ above (inf false) h k = refl
 above (fin true m e) h k = absurd (all-zero (m * up e * 1) (0 * down e) (zero-mul (down e)) h k)
 above (fin false m e) h k = refl
 
-returns : tie.Need-returns
-returns c = below c.before.args.x c.if1.true
+pub returns-then-x : goal.returns-then-x
+returns-then-x c = below c.args.x c.if-x.true
 
-returns-2 : tie.Need-returns-2
-returns-2 c = level c.before.before.args.x (subst T (sym c.before.before.well-formed.0.1) tt) (subst T (sym c.if2.true) tt)
+pub returns-then-x-2 : goal.returns-then-x-2
+returns-then-x-2 c = level c.args.x (subst T (sym c.well_formed.0.1) tt) (subst T (sym c.if-x-2.true) tt)
 
-returns-3 : tie.Need-returns-3
-returns-3 c = above c.before.before.args.x c.before.if1.false c.if2.false
-
-pub abs-spec : {M : Type 1} → statement M
-abs-spec = tie.close (tie.spec returns returns-2 returns-3)
+pub returns : goal.returns
+returns c = above c.args.x c.if-x.false c.if-x-2.false

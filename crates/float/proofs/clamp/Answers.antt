@@ -1,0 +1,14 @@
+use Rattle.float.specs.Leaf.{clamp_of}
+use Rattle.float.proofs.clamp.Goals as goal
+
+pub returns-then-x : goal.returns-then-x
+unfolding clamp_of
+returns-then-x c = simp c.if-x.true
+
+pub returns-then-x-2 : goal.returns-then-x-2
+unfolding clamp_of
+returns-then-x-2 c = simp (c.if-x.false, c.if-x-2.true)
+
+pub returns : goal.returns
+unfolding clamp_of
+returns c = simp (c.if-x.false, c.if-x-2.false)

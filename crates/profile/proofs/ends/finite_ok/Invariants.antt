@@ -1,0 +1,18 @@
+-- `profile::ends::finite_ok` meets its contract. Assumes nothing.
+use Prim.Native.Nat.{◌≤◌, ◌-◌}
+use mathlib.Core.Path.{◌≡◌, sym, ◌∙◌}
+use mathlib.Core.Bool.{true}
+use native.Mathlib.Omega.{arith}
+use borrow.Author.Tests.{not-true, not-false}
+use Rattle.base.specs.Range.{all}
+use Rattle.base.specs.RangeLaws.{all_none, all_more, all_done, all-stop}
+use Rattle.profile.specs.Profile.{ends_finite, finite_ok}
+use Rattle.profile.proofs.Behind.{finite-past, all-ordered}
+use borrow.Author.Rules.{rules}
+use Rattle.profile.proofs.ends.finite_ok.Given as goal
+
+abbrev pub invariant-loop-k : goal.invariant-loop-k
+invariant-loop-k l = (l.k ≤ l.n) × (all l.k (ends_finite l.s) ≡ true)
+
+abbrev pub decreases-loop-k : goal.decreases-loop-k
+decreases-loop-k l = l.n - l.k

@@ -1,0 +1,7 @@
+-- `profile::view::one` meets its contract. Assumes nothing.
+use borrow.Author.Rules.{rules}
+use Rattle.base.specs.RangeLaws.{bit_le}
+use Rattle.profile.proofs.view.one.Goals as goal
+
+pub returns : goal.returns
+returns c = (cc, bit_le c.args.b)

@@ -13,7 +13,7 @@ use rig::Current;
 use session::{Lamps, Line, Live, Marks, Moves, Session, Silenced, Turns};
 
 // What is known before an event runs: the bank that is current after it, whether it is a tick, and whether a refresh of the live bank is due.
-#[derive(Drop)]
+#[derive(Clone, Copy)]
 pub struct Setting {
     pub after: u8,
     pub ticks: bool,
@@ -21,7 +21,7 @@ pub struct Setting {
 }
 
 // What an event leaves, other than a fader's or an encoder's. A bank selected or a scene loaded is `moved`: all marks go, and the live bank is due.
-#[derive(Drop)]
+#[derive(Clone, Copy)]
 pub struct Left {
     pub io: Io,
     pub bank: u8,

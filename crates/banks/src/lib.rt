@@ -17,7 +17,7 @@ use session::Lamps;
 use surface::flash::Flashed;
 
 // The current bank after a press, the lamps' state, and whether a bank was selected.
-#[derive(Drop)]
+#[derive(Clone, Copy)]
 pub struct Selected {
     pub io: Io,
     pub bank: u8,

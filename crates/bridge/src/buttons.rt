@@ -20,7 +20,7 @@ use scenes::Paged;
 use session::Lamps;
 
 // What a press leaves. Where a bank was selected or a scene loaded, `moved`, all marks go and the live bank is due.
-#[derive(Drop)]
+#[derive(Clone, Copy)]
 pub struct Pressed {
     pub io: Io,
     pub bank: u8,

@@ -34,7 +34,7 @@ use session::{Flash, Lamps, Line, Live, Moves, Session, Silenced, Turns};
 use which::Hand;
 
 // What became of an event, the session after it, and whether that is another than the one that was handed in.
-#[derive(Drop)]
+#[derive(Clone, Copy)]
 pub struct Stepped {
     pub outcome: Outcome,
     pub session: Session,
@@ -354,7 +354,7 @@ fn setting_of(session: Session, profile: &[u8], e: Timed) -> Setting
     }
 }
 
-#[derive(Drop)]
+#[derive(Clone, Copy)]
 struct Talked {
     ended: End,
     left: Left,

@@ -9,7 +9,7 @@ use rig::Current;
 use session::Lamps;
 
 // What a hand moved on the surface, if it was a fader or an encoder.
-#[derive(Drop)]
+#[derive(Clone, Copy)]
 pub enum Hand {
     Fader { channel: u8, value: f64 },
     Encoder { channel: u8, delta: i32 },
@@ -37,7 +37,7 @@ pub fn hand_of(what: Input) -> Hand
 }
 
 // The button that the event presses, if it does.
-#[derive(Drop)]
+#[derive(Clone, Copy)]
 pub enum Press {
     Of(Button),
     None,

@@ -11,7 +11,7 @@ use drivers::Io;
 use lookup::{Bound, Command};
 use rig::Current;
 
-#[derive(Drop)]
+#[derive(Clone, Copy)]
 struct Offered {
     io: Io,
     bound: Bound,
@@ -102,7 +102,7 @@ pub fn run_command(
 
 // ── rec ──
 
-#[derive(Drop)]
+#[derive(Clone, Copy)]
 pub struct Loads {
     pub io: Io,
     pub scene: bool,

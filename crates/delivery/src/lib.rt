@@ -11,7 +11,7 @@ ghost use Rattle.delivery.specs.Delivery.{undone_by, HasRoom, Ends};
 use drivers::{Call, Io};
 
 // Document 01's numbers: done with its counts, refused with the cause, or waiting for the answer to a call.
-#[derive(Drop)]
+#[derive(Clone, Copy)]
 pub enum Outcome {
     Done {
         messages: usize,
@@ -24,7 +24,7 @@ pub enum Outcome {
 }
 
 // What became of an event, whether it is done, and the drivers that are open then.
-#[derive(Drop)]
+#[derive(Clone, Copy)]
 pub struct End {
     pub outcome: Outcome,
     pub done: bool,

@@ -13,7 +13,7 @@ pub use line::{
 
 // What a driver is asked. The level is kept as bits, since a NaN has one pattern only.
 #[repr(C)]
-#[derive(Drop)]
+#[derive(Clone, Copy)]
 pub struct Call {
     pub kind: u8,
     pub driver: u8,
@@ -44,7 +44,7 @@ pub const LOAD: u8 = 8;
 pub const LIVE: u8 = 9;
 
 // What a driver answered. Unfit stands for a record that is cut short or does not fit its call. Where a list's items stand is said beside it.
-#[derive(Drop)]
+#[derive(Clone, Copy)]
 pub enum Answer {
     Refused,
     Done,
@@ -66,7 +66,7 @@ pub const DECLINED: u8 = 2;
 pub const OVERRUN: u8 = 3;
 
 // The line of an event: bytes of answers read, calls asked, messages sent, the drivers that are open, why it stopped and at which call.
-#[derive(Drop)]
+#[derive(Clone, Copy)]
 pub struct Io {
     pub read: usize,
     pub asked: usize,
@@ -77,33 +77,33 @@ pub struct Io {
 }
 
 // A level that a device has, or none.
-#[derive(Drop)]
+#[derive(Clone, Copy)]
 pub enum Level {
     At(f64),
     Unknown,
 }
 
-#[derive(Drop)]
+#[derive(Clone, Copy)]
 pub struct Reading {
     pub io: Io,
     pub level: Level,
 }
 
 // Whether a use was made and not refused.
-#[derive(Drop)]
+#[derive(Clone, Copy)]
 pub struct Tried {
     pub io: Io,
     pub ok: bool,
 }
 
 // The names of a list of scenes, at most 128.
-#[derive(Drop)]
+#[derive(Clone, Copy)]
 pub struct Names {
     pub list: [u16; 128],
     pub count: usize,
 }
 
-#[derive(Drop)]
+#[derive(Clone, Copy)]
 pub struct SceneList {
     pub io: Io,
     pub ok: bool,
@@ -111,7 +111,7 @@ pub struct SceneList {
 }
 
 // A fader that a live bank has right now, as its driver hands it over.
-#[derive(Drop)]
+#[derive(Clone, Copy)]
 pub struct LiveFader {
     pub number: u8,
     pub target: u16,
@@ -120,13 +120,13 @@ pub struct LiveFader {
     pub mute: u16,
 }
 
-#[derive(Drop)]
+#[derive(Clone, Copy)]
 pub struct FaderList {
     pub list: [LiveFader; 32],
     pub count: usize,
 }
 
-#[derive(Drop)]
+#[derive(Clone, Copy)]
 pub struct Lives {
     pub io: Io,
     pub ok: bool,
@@ -134,13 +134,13 @@ pub struct Lives {
 }
 
 // A place in a list of scenes, or none.
-#[derive(Drop)]
+#[derive(Clone, Copy)]
 pub enum Index {
     At(u32),
     Nothing,
 }
 
-#[derive(Drop)]
+#[derive(Clone, Copy)]
 pub struct Current {
     pub io: Io,
     pub index: Index,

@@ -14,7 +14,7 @@ use crate::{
 };
 
 // A call's answer, and, of a list, where its own record stands and how many items follow.
-#[derive(Drop)]
+#[derive(Clone, Copy)]
 struct Got {
     io: Io,
     answer: Answer,

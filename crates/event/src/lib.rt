@@ -6,7 +6,7 @@ ghost use Rattle.event.specs.Event.{event_ok, input_of, read_of};
 
 use protocol::Event;
 
-#[derive(Drop)]
+#[derive(Clone, Copy)]
 pub enum Input {
     Midi(Event),
     Tick,
@@ -16,13 +16,13 @@ pub enum Input {
 }
 
 // An event with its time is one record.
-#[derive(Drop)]
+#[derive(Clone, Copy)]
 pub struct Timed {
     pub time: f64,
     pub what: Input,
 }
 
-#[derive(Drop)]
+#[derive(Clone, Copy)]
 pub enum Read {
     Known(Timed),
     // Number 10.

@@ -7,14 +7,14 @@ pub mod encoders;
 pub mod faders;
 
 // What a move does: nothing, it is held, or it takes over and waits.
-#[derive(Drop)]
+#[derive(Clone, Copy)]
 pub enum Verdict {
     Ignored,
     Held,
     Taken,
 }
 
-#[derive(Drop)]
+#[derive(Clone, Copy)]
 pub struct Faded {
     pub io: Io,
     pub verdict: Verdict,

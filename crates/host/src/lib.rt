@@ -17,7 +17,7 @@ use state::{Restored, Saved};
 // What became of an event. Kind 0: done, with how many messages it sent, calls it made and answers it used, and whether there is something to save. 1: refused, with
 // document 01's number. 2: waiting for the answer to a call.
 #[repr(C)]
-#[derive(Drop)]
+#[derive(Clone, Copy)]
 pub struct Report {
     pub kind: u8,
     pub number: u8,

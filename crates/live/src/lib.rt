@@ -15,7 +15,7 @@ use rig::Current;
 use session::{Lamps, Strips};
 
 // The current bank, with the strips that it has now.
-#[derive(Drop)]
+#[derive(Clone, Copy)]
 pub struct Refreshed {
     pub io: Io,
     pub here: Current,

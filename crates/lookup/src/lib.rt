@@ -13,7 +13,7 @@ pub const ABSENT: u16 = 65535;
 // The bank number of what belongs to every bank.
 pub const GLOBALS: u8 = 255;
 
-#[derive(Drop)]
+#[derive(Clone, Copy)]
 pub struct Destination {
     pub driver: u8,
     pub target: u16,
@@ -25,34 +25,34 @@ pub struct Destination {
     pub high: f64,
 }
 
-#[derive(Drop)]
+#[derive(Clone, Copy)]
 pub struct Command {
     pub driver: u8,
     pub target: u16,
     pub command: u16,
 }
 
-#[derive(Drop)]
+#[derive(Clone, Copy)]
 pub enum Found {
     To(Destination),
     Nothing,
 }
 
-#[derive(Drop)]
+#[derive(Clone, Copy)]
 pub enum Bound {
     Run(Command),
     Nothing,
 }
 
 // A transport button and what it runs.
-#[derive(Drop)]
+#[derive(Clone, Copy)]
 pub struct Entry {
     pub kind: u8,
     pub command: Command,
 }
 
 // The drivers of some faders, in the faders' order.
-#[derive(Drop)]
+#[derive(Clone, Copy)]
 pub struct Drivers {
     pub list: [u8; 16],
     pub count: usize,

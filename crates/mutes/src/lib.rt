@@ -18,7 +18,7 @@ use rig::Current;
 use session::Lamps;
 
 // How many targets are silenced now.
-#[derive(Drop)]
+#[derive(Clone, Copy)]
 pub struct Muted {
     pub io: Io,
     pub hushed: usize,

@@ -66,14 +66,14 @@ const NAMED: [u8; 11] = [
 pub const UNKNOWN: u8 = 15;
 
 // A note or a channel, where there is one.
-#[derive(Drop)]
+#[derive(Clone, Copy)]
 pub enum Found {
     At(u8),
     Nothing,
 }
 
 // What the surface did. Channels count from 0; a fader's value is 0 to 1, an encoder's detents are negative to the left.
-#[derive(Drop)]
+#[derive(Clone, Copy)]
 pub enum Event {
     Fader { channel: u8, value: f64 },
     Encoder { channel: u8, delta: i32 },
@@ -82,7 +82,7 @@ pub enum Event {
     Other,
 }
 
-#[derive(Drop)]
+#[derive(Clone, Copy)]
 pub struct Button {
     pub note: u8,
     pub pressed: bool,
@@ -256,7 +256,7 @@ pub fn decode(msg: &[u8]) -> Event
 // ── messages out ──
 
 // What the bridge sends back to the surface.
-#[derive(Drop)]
+#[derive(Clone, Copy)]
 pub enum Out {
     // Light or clear a button's lamp.
     Led { note: u8, on: bool },

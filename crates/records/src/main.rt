@@ -16,7 +16,7 @@ use libc::STDIN_FILENO;
 use session::Session;
 
 // The session that there is, how many bytes its profile has, and whether the input goes on.
-#[derive(Drop)]
+#[derive(Clone, Copy)]
 struct Present {
     session: Session,
     length: usize,

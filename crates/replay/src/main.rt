@@ -18,14 +18,14 @@ use libc::STDIN_FILENO;
 use session::Session;
 
 // A number of the recording, or how many bytes a part of it has, if the recording has it.
-#[derive(Drop)]
+#[derive(Clone, Copy)]
 struct Got {
     there: bool,
     n: usize,
 }
 
 // A step's numbers, and how many bytes its event and its answers have, if the recording has all of it.
-#[derive(Drop)]
+#[derive(Clone, Copy)]
 struct Step {
     there: bool,
     kind: usize,
@@ -36,7 +36,7 @@ struct Step {
 }
 
 // What one step came to, and whether the recording goes on.
-#[derive(Drop)]
+#[derive(Clone, Copy)]
 struct Next {
     session: Session,
     more: bool,

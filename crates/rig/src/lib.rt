@@ -9,14 +9,14 @@ pub mod here;
 pub mod levels;
 
 // The current bank, with its own faders where it is a live one.
-#[derive(Drop)]
+#[derive(Clone, Copy)]
 pub struct Current {
     pub bank: u8,
     pub strips: Strips,
 }
 
 // A mute that was read, if it could be.
-#[derive(Drop)]
+#[derive(Clone, Copy)]
 pub struct MuteRead {
     pub io: Io,
     pub known: bool,

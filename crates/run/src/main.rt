@@ -16,7 +16,7 @@ use delivery::Outcome;
 use session::Session;
 
 // Where the text of an event ends, whether the next event may follow, and how many answers this one used.
-#[derive(Drop)]
+#[derive(Clone, Copy)]
 struct Said {
     text: usize,
     goes: bool,
@@ -24,7 +24,7 @@ struct Said {
 }
 
 // What one event came to.
-#[derive(Drop)]
+#[derive(Clone, Copy)]
 struct Next {
     said: Said,
     session: Session,

@@ -19,7 +19,7 @@ use rig::Current;
 use session::Lamps;
 
 // What a press leaves: the lamps' state, whether a scene was loaded, and whether the positions were saved.
-#[derive(Drop)]
+#[derive(Clone, Copy)]
 pub struct Paged {
     pub io: Io,
     pub lamps: Lamps,

@@ -12,7 +12,7 @@ use drivers::{Io, Tried};
 use rig::Current;
 use session::Lamps;
 
-#[derive(Drop)]
+#[derive(Clone, Copy)]
 pub struct Loaded {
     pub io: Io,
     pub lamps: Lamps,

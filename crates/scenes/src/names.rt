@@ -14,14 +14,14 @@ use rig::Current;
 use session::Lamps;
 
 // The scenes of the current device: the profile's own list of the bank, count of them, or the names that the device reports.
-#[derive(Drop)]
+#[derive(Clone, Copy)]
 pub struct Offer {
     pub own: bool,
     pub count: usize,
     pub names: Names,
 }
 
-#[derive(Drop)]
+#[derive(Clone, Copy)]
 pub struct Offered {
     pub io: Io,
     pub offer: Offer,
@@ -131,7 +131,7 @@ fn position_of(profile: &[u8], bank: u8, offer: Offer, name: u16) -> Place
 
 // ── where the device is ──
 
-#[derive(Drop)]
+#[derive(Clone, Copy)]
 struct OnDevice {
     io: Io,
     place: Place,
@@ -202,7 +202,7 @@ fn with_scene(lamps: Lamps, bank: u8, place: Place) -> Lamps
     }
 }
 
-#[derive(Drop)]
+#[derive(Clone, Copy)]
 pub struct Started {
     pub io: Io,
     pub lamps: Lamps,

@@ -28,7 +28,7 @@ pub use shown::{
 
 // A live bank's fader, as its driver handed it over last.
 #[repr(C)]
-#[derive(Drop)]
+#[derive(Clone, Copy)]
 pub struct Strip {
     pub number: u8,
     pub driver: u8,
@@ -40,7 +40,7 @@ pub struct Strip {
 
 // The faders of one bank; not known until its driver was asked.
 #[repr(C)]
-#[derive(Drop)]
+#[derive(Clone, Copy)]
 pub struct Strips {
     pub known: bool,
     pub list: [Strip; 8],
@@ -48,7 +48,7 @@ pub struct Strips {
 }
 
 #[repr(C)]
-#[derive(Drop)]
+#[derive(Clone, Copy)]
 pub struct Live {
     pub banks: [Strips; 16],
 }
@@ -57,28 +57,28 @@ pub struct Live {
 
 // Faders that are in control of their destination.
 #[repr(C)]
-#[derive(Drop)]
+#[derive(Clone, Copy)]
 pub struct Marks {
     pub on: [bool; 256],
 }
 
 // The last position seen of each fader.
 #[repr(C)]
-#[derive(Drop)]
+#[derive(Clone, Copy)]
 pub struct Moves {
     pub known: [bool; 256],
     pub level: [f64; 256],
 }
 
 #[repr(C)]
-#[derive(Drop)]
+#[derive(Clone, Copy)]
 pub struct Move {
     pub channel: u8,
     pub level: f64,
 }
 
 #[repr(C)]
-#[derive(Drop)]
+#[derive(Clone, Copy)]
 pub struct Line {
     pub list: [Move; 16],
     pub count: usize,
@@ -86,7 +86,7 @@ pub struct Line {
 
 // The encoders' detents that wait: the sums by the first turn, side by side with the profile's records of their encoders.
 #[repr(C)]
-#[derive(Drop)]
+#[derive(Clone, Copy)]
 pub struct Turns {
     pub records: [u16; 136],
     pub sums: [i32; 136],
@@ -97,7 +97,7 @@ pub struct Turns {
 
 // A number shown as a grid, played out as timed steps; sent counts the phases sent.
 #[repr(C)]
-#[derive(Drop)]
+#[derive(Clone, Copy)]
 pub struct Flash {
     pub on: bool,
     pub start: f64,
@@ -109,7 +109,7 @@ pub struct Flash {
 
 // The soloed fader and the one whose scene was loaded last, from 1, or 0; mutes before a solo by fader - 1; the scene position of each bank, if it is known.
 #[repr(C)]
-#[derive(Drop)]
+#[derive(Clone, Copy)]
 pub struct Lamps {
     pub soloed: u8,
     pub loaded: u8,
@@ -121,7 +121,7 @@ pub struct Lamps {
 
 // The levels of targets that were silenced without a mute, side by side with their targets.
 #[repr(C)]
-#[derive(Drop)]
+#[derive(Clone, Copy)]
 pub struct Silenced {
     pub targets: [u16; 256],
     pub levels: [f64; 256],
@@ -131,7 +131,7 @@ pub struct Silenced {
 // ── all of it ──
 
 #[repr(C)]
-#[derive(Drop)]
+#[derive(Clone, Copy)]
 pub struct Session {
     pub bank: u8,
     pub livedue: bool,

@@ -13,7 +13,7 @@ use lookup::{Destination, Found};
 use rig::Current;
 use session::Lamps;
 
-#[derive(Drop)]
+#[derive(Clone, Copy)]
 pub struct Added {
     pub list: [u16; 16],
     pub count: usize,

@@ -118,7 +118,7 @@ fn solo_off(
 
 // ── on ──
 
-#[derive(Drop)]
+#[derive(Clone, Copy)]
 struct Noted {
     io: Io,
     lamps: Lamps,
@@ -298,7 +298,7 @@ fn solo_on(
 
 // ── either ──
 
-#[derive(Drop)]
+#[derive(Clone, Copy)]
 pub struct Soloed {
     pub io: Io,
     pub lamps: Lamps,

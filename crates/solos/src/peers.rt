@@ -8,14 +8,14 @@ use lookup::{Destination, Found};
 use rig::Current;
 
 // A fader's destination, if it is of the group; where `there` is false it may be anything.
-#[derive(Drop)]
+#[derive(Clone, Copy)]
 pub struct Peer {
     pub there: bool,
     pub dest: Destination,
 }
 
 // The faders 1 to 16, each at its number - 1.
-#[derive(Drop)]
+#[derive(Clone, Copy)]
 pub struct Peers {
     pub list: [Peer; 16],
 }

@@ -11,7 +11,7 @@ use drivers::{Io, Level};
 use rig::Current;
 use session::{Flash, Lamps};
 
-#[derive(Drop)]
+#[derive(Clone, Copy)]
 pub struct Flashed {
     pub io: Io,
     pub lamps: Lamps,

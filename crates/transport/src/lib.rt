@@ -16,7 +16,7 @@ use drivers::Io;
 use lookup::{Command, Entry};
 use protocol::Found;
 
-#[derive(Drop)]
+#[derive(Clone, Copy)]
 struct Met {
     io: Io,
     count: usize,

@@ -2,7 +2,7 @@
 
 // Runs the codec over messages and prints what each says and what is sent back for it. The input has a message to a line, in hexadecimal; what
 // follows a '#' is a remark, and a line that starts with one is no message.
-use libc::STDOUT_FILENO;
+
 use protocol::{Button, Event, Found};
 
 // What was read of a line: the digits of its message, and where the reader stands.
@@ -14,7 +14,7 @@ const BEHIND: u8 = 2;
 
 const REMARK: u8 = 3;
 
-#[derive(Drop)]
+#[derive(Clone, Copy)]
 struct Line {
     bytes: [u8; 3],
     digits: usize,

@@ -1,0 +1,13 @@
+use Rattle.drivers.specs.Answers.{items_of}
+use lib.ListN.{length, take, drop, length-set}
+use Prim.Native.Nat.{◌-◌, ◌≤◌}
+use mathlib.Core.Path.{◌≡◌, refl}
+use native.Mathlib.Omega.{arith}
+use Rattle.drivers.proofs.Laws.{fader-seen}
+use Rattle.drivers.proofs.line.faders_of.Given as goal
+
+abbrev pub invariant-loop-i : goal.invariant-loop-i
+invariant-loop-i l = (l.i ≤ l.count) × (length l.list ≡ 32) × (take l.i l.list ≡ items_of l.i (drop l.from l.answers))
+
+abbrev pub decreases-loop-i : goal.decreases-loop-i
+decreases-loop-i l = l.count - l.i

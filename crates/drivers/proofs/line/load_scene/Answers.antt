@@ -1,0 +1,10 @@
+use Rattle.drivers.specs.Talk.{load_of, next}
+use borrow.Author.Rules.{rules}
+use Rattle.drivers.proofs.line.load_scene.Goals as goal
+
+pub returns : goal.returns
+unfolding load_of next
+returns c = rw (
+  ← c.plain-c.ensures,
+  ← c.done.ensures,
+)

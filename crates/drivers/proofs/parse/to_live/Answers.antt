@@ -1,0 +1,15 @@
+use Rattle.drivers.specs.Answers.{to_live}
+use borrow.Author.Tests.{eq-eqb, ne_eqb}
+use borrow.Author.Rules.{rules}
+use Rattle.drivers.proofs.parse.to_live.Goals as goal
+
+pub returns-then-k-eq6 : goal.returns-then-k-eq6
+unfolding to_live
+returns-then-k-eq6 c = rw (
+  eq-eqb _ _ c.if-k-eq6.true,
+  ← c.live_list.ensures,
+)
+
+pub returns : goal.returns
+unfolding to_live
+returns c = rw (ne_eqb _ _ c.if-k-eq6.false)

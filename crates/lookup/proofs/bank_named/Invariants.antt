@@ -1,0 +1,19 @@
+-- `lookup::bank_named` meets its contract. Assumes nothing.
+use Prim.Native.Nat.{◌≤◌, ◌-◌}
+use mathlib.Core.Path.{◌≡◌, sym, ◌∙◌}
+use native.Mathlib.Omega.{arith}
+use lib.Dec.{eqb}
+use borrow.Author.Tests.{eq-eqb, ne_eqb}
+use borrow.Author.Rules.{rules}
+use Rattle.base.specs.First.{first}
+use Rattle.base.specs.FirstLaws.{first-none, first_more, first_done, first-hit}
+use Rattle.base.specs.declared.Place.TheVariants.{Nothing}
+use Rattle.profile.specs.Accepted.{few-banks}
+use Rattle.lookup.specs.Lookup.{name_of, bank_named}
+use Rattle.lookup.proofs.bank_named.Given as goal
+
+abbrev pub invariant-loop-b : goal.invariant-loop-b
+invariant-loop-b l = (l.b ≤ l.n) × (first l.b (λ i. eqb (name_of l.profile i) l.name) ≡ Nothing)
+
+abbrev pub decreases-loop-b : goal.decreases-loop-b
+decreases-loop-b l = l.n - l.b

@@ -1,0 +1,17 @@
+-- `lookup::find` meets its contract. Assumes nothing.
+use Prim.Native.Nat.{◌≤◌, ◌-◌}
+use mathlib.Core.Path.{◌≡◌, sym, ◌∙◌}
+use native.Mathlib.Omega.{arith}
+use borrow.Author.Rules.{rules}
+use Rattle.base.specs.First.{first}
+use Rattle.base.specs.FirstLaws.{first-none, first_more}
+use Rattle.base.specs.declared.Place.TheVariants.{Nothing}
+use Rattle.lookup.specs.Lookup.{is_entry, is_past}
+use Rattle.lookup.specs.LookupLaws.{reach_here, reach-end, reach-on, entry-hit, entry-none}
+use Rattle.lookup.proofs.find.Given as goal
+
+abbrev pub invariant-loop-k : goal.invariant-loop-k
+invariant-loop-k l = (l.k ≤ l.n) × (first l.k (is_past l.s l.kind) ≡ Nothing) × (first l.k (is_entry l.s l.kind l.part l.number) ≡ Nothing)
+
+abbrev pub decreases-loop-k : goal.decreases-loop-k
+decreases-loop-k l = l.n - l.k

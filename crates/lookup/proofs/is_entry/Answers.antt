@@ -1,0 +1,8 @@
+-- `lookup::is_entry` meets its contract. Assumes nothing.
+use borrow.Author.Rules.{rules}
+use Rattle.base.specs.Range.{every}
+use Rattle.lookup.proofs.is_entry.Goals as goal
+
+pub returns : goal.returns
+unfolding every
+returns c = cc

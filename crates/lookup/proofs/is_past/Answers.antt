@@ -1,0 +1,6 @@
+-- `lookup::is_past` meets its contract. Assumes nothing.
+use borrow.Author.Rules.{rules}
+use Rattle.lookup.proofs.is_past.Goals as goal
+
+pub returns : goal.returns
+returns c = cc

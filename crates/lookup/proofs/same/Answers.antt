@@ -1,0 +1,9 @@
+-- `lookup::same` meets its contract. Assumes nothing.
+use borrow.Author.Rules.{rules}
+use Rattle.base.specs.Range.{every}
+use Rattle.lookup.specs.Lookup.{same_dest}
+use Rattle.lookup.proofs.same.Goals as goal
+
+pub returns : goal.returns
+unfolding same_dest every
+returns c = cc

@@ -1,0 +1,10 @@
+-- `lookup::transport_in_reach` meets its contract. Assumes nothing.
+use Rattle.lookup.specs.LookupLaws.{runs-there, runs-elsewhere}
+use borrow.Author.Rules.{rules}
+use Rattle.lookup.proofs.transport_in_reach.Goals as goal
+
+pub returns-in-Run : goal.returns-in-Run
+returns-in-Run c = search runs-there
+
+pub returns-in-Nothing : goal.returns-in-Nothing
+returns-in-Nothing c = search runs-elsewhere

@@ -85,12 +85,15 @@ def main():
         text = read(path)
         laws = laws_of(path, text) if path.endswith(".antt") else set()
 
+        # What a file calls a name that it takes.
+        aliases = {w: snake(w) for w in re.findall(r" as ([a-z]\w*)", text) if is_camel(w)} if path.endswith(".rt") else {}
+
         def one(m):
             word = m[0]
             before = text[m.start() - 1 : m.start()]
             if word in laws and before != ".":
                 return word + "_lem"
-            return new.get(word, word)
+            return new.get(word) or aliases.get(word, word)
 
         now = WORD.sub(one, text)
         if now != text:

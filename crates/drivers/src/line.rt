@@ -5,7 +5,7 @@ ghost use Rattle.base.specs.Tail.{at_front};
 ghost use Rattle.protocol.specs.Protocol.{sent_to};
 ghost use Rattle.protocol.specs.declared.Out.TheVariants.{Led};
 ghost use Rattle.drivers.specs.Answers.{item_at, items_of, item_count};
-ghost use Rattle.drivers.specs.Talk.{got, start, name_of, ask as askOf, open_for, use_call, use_done, written as written_of, plain_call, write_call, level_of, index_of, read_of, write_of, toggle_of, command_of, playing_of, scenes_of, current_of, load_of, live_of, send};
+ghost use Rattle.drivers.specs.Talk.{got, start, name_of, ask as ask_of, open_for, use_call, use_done, written as written_of, plain_call, write_call, level_of, index_of, read_of, write_of, toggle_of, command_of, playing_of, scenes_of, current_of, load_of, live_of, send};
 ghost use Rattle.drivers.specs.Shown.{shown, call_bytes, halt_of, noted_of, opened_in, sent_one, roomless, reply_in, Listing, seen_names, seen_faders, listed};
 
 use crate::{
@@ -101,7 +101,7 @@ fn noted(io: Io, count: usize) -> Io
 // The call, over the buffer as a slice, whose tail is lent to the writer; the part of the answers from the first unread record is handed on.
 fn ask_in(answers: &[u8], calls: &mut [u8], io: Io, c: Call) -> Got
     requires { 5392 ≤ length calls.old }
-    ensures by_index { (ms : List ℕ) → got (reply_in answers.now result.answer result.from result.count) (shown answers.now result.io calls.new ms) ≡ askOf c (shown answers.now io calls.old ms) }
+    ensures by_index { (ms : List ℕ) → got (reply_in answers.now result.answer result.from result.count) (shown answers.now result.io calls.new ms) ≡ ask_of c (shown answers.now io calls.old ms) }
     ensures listing { Listing answers.now c.kind result.from result.count }
 {
     if io.stop != GOING {
@@ -138,7 +138,7 @@ fn ask_in(answers: &[u8], calls: &mut [u8], io: Io, c: Call) -> Got
 
 // A call takes the next answer.
 fn ask(answers: &[u8], calls: &mut [u8; 5392], messages: &mut [u8; 306], io: Io, c: Call) -> Got
-    ensures messages_after { got (reply_in answers.now result.answer result.from result.count) (shown answers.now result.io calls.new messages.new) ≡ askOf c (shown answers.now io calls.old messages.old) }
+    ensures messages_after { got (reply_in answers.now result.answer result.from result.count) (shown answers.now result.io calls.new messages.new) ≡ ask_of c (shown answers.now io calls.old messages.old) }
     ensures listing { Listing answers.now c.kind result.from result.count }
 {
     ask_in(answers, calls, io, c)

@@ -8,7 +8,7 @@ ghost use Rattle.drivers.specs.Shown.{shown};
 ghost use Rattle.session.specs.Session.{hushed_up_to, hushed_level, has_room};
 ghost use Rattle.definition.specs.Rig.{destination};
 ghost use Rattle.definition.specs.Levels.{or_zero, kept_by, has_mute};
-ghost use Rattle.definition.specs.Muting.{hand_back, keep_level, zeroed as zeroedOf, mute_if, mute as muteOf, set_mute};
+ghost use Rattle.definition.specs.Muting.{hand_back, keep_level, zeroed as zeroed_of, mute_if, mute as mute_of, set_mute};
 ghost use Rattle.rig.specs.Seen.{rig_in};
 ghost use Rattle.mutes.specs.Held.{room_for, room_at};
 
@@ -86,7 +86,7 @@ fn zeroed(
 ) -> Muted
     requires hushed_bound { hushed ≤ 256 }
     requires targets_value { has_room (kept_by dest) (take hushed targets.old) ≡ true }
-    ensures messages_after { got (hushed_up_to result.hushed targets.new levels.new) (shown answers.now result.io calls.new messages.new) ≡ zeroedOf dest (hushed_up_to hushed targets.old levels.old) (shown answers.now io calls.old messages.old) }
+    ensures messages_after { got (hushed_up_to result.hushed targets.new levels.new) (shown answers.now result.io calls.new messages.new) ≡ zeroed_of dest (hushed_up_to hushed targets.old levels.old) (shown answers.now io calls.old messages.old) }
     ensures hushed_bound_2 { result.hushed ≤ 256 }
 {
     let k = keep_level(answers, calls, messages, io, dest, targets, levels, hushed);
@@ -148,7 +148,7 @@ pub fn mute(
     requires count_bound { here.strips.count ≤ 8 }
     requires hushed_bound { hushed ≤ 256 }
     requires targets_value { room_at (destination (rig_in profile.now here) fader) (take hushed targets.old) ≡ true }
-    ensures messages_after { got (hushed_up_to result.hushed targets.new levels.new) (shown answers.now result.io calls.new messages.new) ≡ muteOf (rig_in profile.now here) fader lamps (hushed_up_to hushed targets.old levels.old) (shown answers.now io calls.old messages.old) }
+    ensures messages_after { got (hushed_up_to result.hushed targets.new levels.new) (shown answers.now result.io calls.new messages.new) ≡ mute_of (rig_in profile.now here) fader lamps (hushed_up_to hushed targets.old levels.old) (shown answers.now io calls.old messages.old) }
     ensures hushed_bound_2 { result.hushed ≤ 256 }
 {
     let Found::To(d) = rig::here::destination(profile, here, fader) else {

@@ -2,7 +2,7 @@
 ghost use Rattle.std.specs.Prelude.{◌≡◌, ◌++◌, ◌+◌, ◌≤◌, ◌<◌};
 ghost use Rattle.profile.specs.Profile.{verdict};
 ghost use Rattle.lookup.specs.Lookup.{seen_drivers, MayBeDriver};
-ghost use Rattle.definition.specs.Rig.{own_fader, destination as destinationOf, driver_in, bank_driver, device as device_of, is_of, target_in, first_target};
+ghost use Rattle.definition.specs.Rig.{own_fader, destination as destination_of, driver_in, bank_driver, device as device_of, is_of, target_in, first_target};
 ghost use Rattle.definition.specs.Buttons.{or_absent};
 ghost use Rattle.rig.specs.Seen.{here_in, rig_in};
 
@@ -24,7 +24,7 @@ pub fn own_fader(profile: &[u8], here: Current, number: u8) -> Found
 // A global fader wins over the bank's: it is the one that is always there, whichever bank is selected.
 pub fn destination(profile: &[u8], here: Current, number: u8) -> Found
     requires { here.strips.count ≤ 8 }
-    ensures { result ≡ destinationOf (rig_in profile.now here) number }
+    ensures { result ≡ destination_of (rig_in profile.now here) number }
 {
     match lookup::fader(profile, 255, number) {
         Found::To(d) => Found::To(d),

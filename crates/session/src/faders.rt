@@ -3,7 +3,7 @@ ghost use Rattle.std.specs.Prelude.{◌≡◌, true, false, [], ◌+◌, ◌≤�
 ghost use Rattle.std.proofs.Math.Option.{some};
 ghost use Rattle.base.specs.Keyed.{at};
 ghost use Rattle.drivers.specs.Shown.{seen_faders};
-ghost use Rattle.session.specs.Session.{no_strip, no_strips, strips_at, strips_for, seen_strips, strips_or, is_strip, strip_at, strip_dest, found_strip, strip_of, strips_of, on_surface, same_strip, same_at, same_strips as sameStripsOf, label_of};
+ghost use Rattle.session.specs.Session.{no_strip, no_strips, strips_at, strips_for, seen_strips, strips_or, is_strip, strip_at, strip_dest, found_strip, strip_of, strips_of, on_surface, same_strip, same_at, same_strips as same_strips_of, label_of};
 
 use crate::{Live, Strip, Strips};
 use drivers::{FaderList, LiveFader};
@@ -146,7 +146,7 @@ fn same_at(a: Strips, b: Strips, number: u8) -> bool
 // Two lists are the same if they are so at each number, in whatever order they stand.
 pub fn same_strips(a: Strips, b: Strips) -> bool
     requires { (a.count ≤ 8) × (b.count ≤ 8) }
-    ensures { result ≡ sameStripsOf (strips_or (seen_strips a)) (strips_or (seen_strips b)) }
+    ensures { result ≡ same_strips_of (strips_or (seen_strips a)) (strips_or (seen_strips b)) }
 {
     let mut n: u8 = 0;
     while n < 8 {

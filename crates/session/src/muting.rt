@@ -4,7 +4,7 @@
 ghost use Rattle.std.specs.Prelude.{◌≡◌, true, ◌≤◌, replicate, take, length};
 ghost use Rattle.base.specs.Keyed.{at};
 ghost use Rattle.float.specs.Leaf.{f0};
-ghost use Rattle.session.specs.Session.{hushed_up_to, same_target, is_hushed, hushed_level, hush as hushOf, unhush as unhushOf, has_room};
+ghost use Rattle.session.specs.Session.{hushed_up_to, same_target, is_hushed, hushed_level, hush as hush_of, unhush as unhush_of, has_room};
 
 use crate::Silenced;
 use drivers::Level;
@@ -71,7 +71,7 @@ pub fn hush(
 ) -> usize
     requires n_bound { n ≤ 256 }
     requires targets_value { has_room target (take n targets.old) ≡ true }
-    ensures levels_after { hushed_up_to result targets.new levels.new ≡ hushOf target level (hushed_up_to n targets.old levels.old) }
+    ensures levels_after { hushed_up_to result targets.new levels.new ≡ hush_of target level (hushed_up_to n targets.old levels.old) }
     ensures upper_bound { result ≤ 256 }
 {
     let ts: &mut [u16] = targets;
@@ -88,7 +88,7 @@ pub fn hush(
 // The target's level is kept no more, and the others close up; how many there are then.
 pub fn unhush(targets: &mut [u16; 256], levels: &mut [f64; 256], n: usize, target: u16) -> usize
     requires { n ≤ 256 }
-    ensures levels_after { hushed_up_to result targets.new levels.new ≡ unhushOf target (hushed_up_to n targets.old levels.old) }
+    ensures levels_after { hushed_up_to result targets.new levels.new ≡ unhush_of target (hushed_up_to n targets.old levels.old) }
     ensures upper_bound { result ≤ 256 }
 {
     let ts: &mut [u16] = targets;

@@ -1,6 +1,6 @@
 // What the lamps show beside levels and mutes: solo, scenes and the flash.
 ghost use Rattle.std.specs.Prelude.{◌≡◌, true, false, ◌≤◌, ◌<◌};
-ghost use Rattle.session.specs.Session.{no_flash, none_lit, was_muted, note_muted, none_noted, solo_to, loaded_by, scene_at, scene_to, scene_unknown, flashing as flashingOf};
+ghost use Rattle.session.specs.Session.{no_flash, none_lit, was_muted, note_muted, none_noted, solo_to, loaded_by, scene_at, scene_to, scene_unknown, flashing as flashing_of};
 
 use crate::{Flash, Lamps};
 use base::Place;
@@ -117,7 +117,7 @@ pub fn scene_unknown(lamps: Lamps, bank: u8) -> Lamps
 // ── the flash ──
 
 pub fn flashing(lamps: Lamps, flash: Flash) -> Lamps
-    ensures { result ≡ flashingOf flash lamps }
+    ensures { result ≡ flashing_of flash lamps }
 {
     let mut t = lamps;
     t.flash = flash;

@@ -3,7 +3,7 @@ ghost use Rattle.std.specs.Prelude.{◌≡◌, true, [], ◌+◌, ◌≤◌, ◌
 ghost use Rattle.base.specs.Choice.{pick};
 ghost use Rattle.base.specs.Keyed.{any_of, change};
 ghost use Rattle.lookup.specs.declared.Found.TheVariants as found;
-ghost use Rattle.definition.specs.Muting.{is_same, adding as addingOf, solo_adds, added_by_solo, added_by_mute};
+ghost use Rattle.definition.specs.Muting.{is_same, adding as adding_of, solo_adds, added_by_solo, added_by_mute};
 ghost use Rattle.rig.specs.Seen.{rig_in};
 ghost use Rattle.solos.specs.Peers.{found_of, seen_peers, seen_added};
 
@@ -63,7 +63,7 @@ fn with_target(added: Added, target: u16) -> Added
 fn adding(added: Added, targets: &[u16; 256], hushed: usize, dest: Destination) -> Added
     requires count_bound { added.count < 16 }
     requires hushed_bound { hushed ≤ 256 }
-    ensures result_value { seen_added result ≡ addingOf (found.To dest) (take hushed targets.now) (seen_added added) }
+    ensures result_value { seen_added result ≡ adding_of (found.To dest) (take hushed targets.now) (seen_added added) }
     ensures count_bound_2 { result.count ≤ added.count + 1 }
 {
     let target = rig::levels::kept_by(dest);
@@ -77,7 +77,7 @@ fn adding(added: Added, targets: &[u16; 256], hushed: usize, dest: Destination) 
 fn adding_peer(added: Added, targets: &[u16; 256], hushed: usize, peer: Peer, itself: bool) -> Added
     requires count_bound { added.count < 16 }
     requires hushed_bound { hushed ≤ 256 }
-    ensures result_value { seen_added result ≡ addingOf (pick itself found.Nothing (found_of peer)) (take hushed targets.now) (seen_added added) }
+    ensures result_value { seen_added result ≡ adding_of (pick itself found.Nothing (found_of peer)) (take hushed targets.now) (seen_added added) }
     ensures count_bound_2 { result.count ≤ added.count + 1 }
 {
     if itself | !peer.there {

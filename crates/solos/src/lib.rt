@@ -10,7 +10,7 @@ ghost use Rattle.drivers.specs.Talk.{got};
 ghost use Rattle.drivers.specs.Shown.{shown};
 ghost use Rattle.session.specs.Session.{hushed_up_to, targets_of, is_hushed, has_room};
 ghost use Rattle.definition.specs.Levels.{kept_by};
-ghost use Rattle.definition.specs.Muting.{back_if, off_to, solo_off, note_if, silence_if, on_to, solo_on, solo_adds, added_by_solo, solo as soloOf};
+ghost use Rattle.definition.specs.Muting.{back_if, off_to, solo_off, note_if, silence_if, on_to, solo_on, solo_adds, added_by_solo, solo as solo_of};
 ghost use Rattle.rig.specs.Seen.{rig_in};
 ghost use Rattle.solos.specs.Peers.{found_of, seen_peers, room_to, soloed_as};
 ghost use Rattle.solos.specs.Turns.{note_to, turned_off, turned_on, turned_over};
@@ -413,7 +413,7 @@ pub fn solo(
     requires hushed_bound { hushed ≤ 256 }
     requires levels_value { no_twice eqb (targets_of (hushed_up_to hushed targets.old levels.old)) ≡ true }
     requires levels_len_bound { length (hushed_up_to hushed targets.old levels.old) + length (added_by_solo (rig_in profile.now here) fader lamps (targets_of (hushed_up_to hushed targets.old levels.old))) ≤ 256 }
-    ensures messages_after { got (soloed_as result.lamps (hushed_up_to result.hushed targets.new levels.new)) (shown answers.now result.io calls.new messages.new) ≡ soloOf (rig_in profile.now here) fader lamps (hushed_up_to hushed targets.old levels.old) (shown answers.now io calls.old messages.old) }
+    ensures messages_after { got (soloed_as result.lamps (hushed_up_to result.hushed targets.new levels.new)) (shown answers.now result.io calls.new messages.new) ≡ solo_of (rig_in profile.now here) fader lamps (hushed_up_to hushed targets.old levels.old) (shown answers.now io calls.old messages.old) }
     ensures hushed_bound_2 { result.hushed ≤ 256 }
 {
     let Found::To(chosen) = rig::here::destination(profile, here, fader) else {

@@ -38,6 +38,9 @@ pub returns : goal.returns
 returns c = let a = c.args in
     let e = answer-part a.answers.now a.io.read a.c.kind _ c.first-a.ensures in
     let u = sym c.is_unfit.ensures ∙ c.if-is_unfit.false in
-    let q = items-part a.answers.now a.io.read _ _ c.items-count.ensures in record { by_index = λ ms.
+    let q = items-part a.answers.now a.io.read _ _ c.items-count.ensures in record {
+      by_index = λ ms.
           ask-made _ a.calls.now ms a.io a.c _ _ _ _ e u q c.noted-u.ensures c.write_call.ensures c.if-io-ne-GOING.false c.if-n-ge337.false
-          c.if-answers-at.false c.requires; listing = listing _ _ _ _ _ c.if-answers-at.false e u q }
+          c.if-answers-at.false c.requires;
+      listing = listing _ _ _ _ _ c.if-answers-at.false e u q;
+    }

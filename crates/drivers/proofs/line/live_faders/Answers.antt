@@ -9,9 +9,12 @@ faders_of-faders-requires c = plain-listing _ _ _ _ _ _ _ _ c.plain-c.ensures c.
 
 pub returns : goal.returns
 unfolding live_of next reply_in
-returns c = record { messages_after = rw (
+returns c = record {
+  messages_after = rw (
     ← c.plain-c.ensures,
     ← c.use_call-g.ensures.messages_after,
     ← c.is_list-ok.ensures,
     ← c.faders_of-faders.ensures.result_value,
-  ); count_bound = search rules }
+  );
+  count_bound = search rules;
+}

@@ -9,9 +9,12 @@ names_of-names-requires c = plain-listing _ _ _ _ _ _ _ _ c.plain-c.ensures c.us
 
 pub returns : goal.returns
 unfolding scenes_of next reply_in
-returns c = record { messages_after = rw (
+returns c = record {
+  messages_after = rw (
     ← c.plain-c.ensures,
     ← c.use_call-g.ensures.messages_after,
     ← c.is_list-ok.ensures,
     ← c.names_of-names.ensures.result_value,
-  ); count_bound = search rules }
+  );
+  count_bound = search rules;
+}

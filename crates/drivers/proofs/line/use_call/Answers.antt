@@ -7,15 +7,21 @@ use Rattle.drivers.proofs.line.use_call.Goals as goal
 
 pub returns-then-t : goal.returns-then-t
 unfolding use_call next reply_in items_of
-returns-then-t c = record { messages_after = rw (
+returns-then-t c = record {
+  messages_after = rw (
     ← c.open_for-t.ensures,
     c.if-t.true,
     ← c.ask.ensures.messages_after,
-  ); listing = search rules }
+  );
+  listing = search rules;
+}
 
 pub returns : goal.returns
 unfolding use_call next reply_in items_of
-returns c = record { messages_after = rw (
+returns c = record {
+  messages_after = rw (
     ← c.open_for-t.ensures,
     c.if-t.false,
-  ); listing = no-listing _ _ _ }
+  );
+  listing = no-listing _ _ _;
+}

@@ -1,0 +1,18 @@
+use mathlib.Core.Path.{◌≡◌, sym, ap, ◌∙◌}
+use Prim.Native.Nat.{◌-◌, ◌≤◌}
+use native.Mathlib.Omega.{arith}
+use native.Mathlib.Numerals.{add-one}
+use lib.ListN.{take}
+use Rattle.base.specs.Keyed.{at}
+use Rattle.base.specs.KeyedLaws as laws
+use Rattle.lookup.specs.Lookup.{same_dest}
+use Rattle.session.specs.Session.{wires_to}
+use Rattle.session.specs.SessionLaws.{encoder-in-file}
+use borrow.Author.Rules.{rules}
+use Rattle.session.proofs.desk.find_in.Given as goal
+
+abbrev pub invariant-loop-i : goal.invariant-loop-i
+invariant-loop-i l = (l.i ≤ l.n) × (at (wires_to l.profile l.dest) (take l.i l.records) ≡ l.i)
+
+abbrev pub decreases-loop-i : goal.decreases-loop-i
+decreases-loop-i l = l.n - l.i

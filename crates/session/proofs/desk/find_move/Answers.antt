@@ -1,0 +1,32 @@
+use mathlib.Core.Path.{◌≡◌, sym}
+use Prim.Native.Nat.{◌-◌, ◌≤◌}
+use native.Mathlib.Omega.{arith}
+use native.Mathlib.Numerals.{add-one}
+use lib.ListN.{length, take}
+use borrow.Author.Tests.{eq-eqb, ne_eqb}
+use Rattle.base.specs.Keyed.{at}
+use Rattle.base.specs.KeyedLaws as laws
+use Rattle.session.specs.Session.{is_channel, no_move}
+use borrow.Author.Rules.{rules}
+use Rattle.session.proofs.desk.find_move.Goals as goal
+
+pub loop-i-init : goal.loop-i-init
+loop-i-init c = (search rules, laws.at_none _ no_move c.args.line.list)
+
+pub returns-then-m-channel : goal.returns-then-m-channel
+returns-then-m-channel c = let b = c in
+    let s = b.args.line in
+    let p = c.loop-i in
+    let l : length s.list ≡ 16 = search laws.long in
+    sym (laws.at-hit _ no_move s.list p.i b.args.n (omega arith) (omega arith) p.invariant.1 (eq-eqb _ _ c.if-m-channel.true))
+
+pub loop-i-preserved : goal.loop-i-preserved
+loop-i-preserved c = let s = c.args.line in
+    let p = c.loop-i in
+    let l : length s.list ≡ 16 = search laws.long in
+    (omega arith, rw add-one (laws.at_more _ no_move s.list p.i (omega arith) p.invariant.1 (ne_eqb _ _ c.if-m-channel.false)))
+
+pub returns : goal.returns
+returns c = let s = c.args.line in
+    let p = c.loop-i in
+    laws.at_done _ no_move s.list p.i c.args.n (omega arith) (omega arith) p.invariant.1

@@ -1,0 +1,17 @@
+use mathlib.Core.Path.{◌≡◌, sym}
+use Prim.Native.Nat.{◌-◌, ◌≤◌}
+use native.Mathlib.Omega.{arith}
+use native.Mathlib.Numerals.{add-one}
+use lib.ListN.{length, take}
+use borrow.Author.Tests.{eq-eqb, ne_eqb}
+use Rattle.base.specs.Keyed.{at}
+use Rattle.base.specs.KeyedLaws as laws
+use Rattle.session.specs.Session.{is_channel, no_move}
+use borrow.Author.Rules.{rules}
+use Rattle.session.proofs.desk.find_move.Given as goal
+
+abbrev pub invariant-loop-i : goal.invariant-loop-i
+invariant-loop-i l = (l.i ≤ l.n) × (at (is_channel l.channel) (take l.i l.line.list) ≡ l.i)
+
+abbrev pub decreases-loop-i : goal.decreases-loop-i
+decreases-loop-i l = l.n - l.i

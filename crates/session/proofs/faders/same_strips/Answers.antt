@@ -1,0 +1,25 @@
+use mathlib.Core.Path.{◌≡◌, sym, ◌∙◌}
+use mathlib.Core.Bool.{Bool, true}
+use Prim.Native.Nat.{ℕ, ◌+◌, ◌-◌, ◌≤◌}
+use native.Mathlib.Omega.{arith}
+use borrow.Author.Tests.{not-true, not-false}
+use Rattle.base.specs.Range.{all}
+use Rattle.base.specs.RangeLaws.{all_none, all_more, all_done, all-stop}
+use Rattle.session.specs.Session.{seen_strips, strips_or, strip_at, same_at, same_strips}
+use Rattle.session.specs.declared.Strips.{Strips}
+use borrow.Author.Rules.{rules}
+use Rattle.session.proofs.faders.same_strips.Goals as goal
+
+pub loop-n-init : goal.loop-n-init
+loop-n-init c = (search rules, all_none _)
+
+pub returns-then-not-same_at : goal.returns-then-not-same_at
+unfolding same_strips
+returns-then-not-same_at c = all-stop _ 8 _ c.loop-n-test.true (sym c.same_at.ensures ∙ not-true _ c.if-not-same_at.true-raw)
+
+pub loop-n-preserved : goal.loop-n-preserved
+loop-n-preserved c = (omega arith, all_more _ _ c.loop-n.invariant.1 (sym c.same_at.ensures ∙ not-false _ c.if-not-same_at.false-raw))
+
+pub returns : goal.returns
+unfolding same_strips
+returns c = all_done _ _ 8 c.loop-n.invariant.0 c.loop-n-test.false c.loop-n.invariant.1

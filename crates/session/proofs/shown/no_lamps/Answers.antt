@@ -1,0 +1,7 @@
+use Rattle.session.specs.Session.{none_lit, no_flash}
+use borrow.Author.Rules.{rules}
+use Rattle.session.proofs.shown.no_lamps.Goals as goal
+
+pub returns : goal.returns
+unfolding none_lit no_flash
+returns c = rw c.no_flash-flash.ensures

@@ -2,8 +2,9 @@
 
 // Runs the codec over messages and prints what each says and what is sent back for it. The input has a message to a line, in hexadecimal; what
 // follows a '#' is a remark, and a line that starts with one is no message.
-
 use protocol::{Button, Event, Found};
+
+const STDOUT_FILENO: i32 = 1;
 
 // What was read of a line: the digits of its message, and where the reader stands.
 const START: u8 = 0;

@@ -1,0 +1,10 @@
+use Rattle.definition.specs.Levels.{write}
+use borrow.Author.Rules.{rules}
+use Rattle.rig.proofs.levels.write.Goals as goal
+
+pub returns : goal.returns
+unfolding write
+returns c = rw (
+  ← c.ranged-level.ensures,
+  ← c.write.ensures,
+)

@@ -9,7 +9,7 @@ mod lines;
 ghost use Rattle.std.specs.Prelude.{◌+◌, ◌*◌, ◌≤◌, ◌≡◌, [], ◌∷◌, ◌++◌, length, take};
 ghost use Rattle.drivers.specs.Shown.{messages_in};
 ghost use Rattle.io.specs.Digits.{hex_digit_ascii};
-ghost use Rattle.printing.specs.Text.{decimal, bits, hex as hexOf, word, level, line_end, kind_word, call_words, call_line, message_line, message_lines};
+ghost use Rattle.printing.specs.Text.{decimal, bits, hex as hex_of, word, level, line_end, kind_word, call_words, call_line, message_line, message_lines};
 
 use drivers::Call;
 pub use lines::{put_calls, put_counts, put_profile, put_refused, put_step, put_waiting, show};
@@ -73,7 +73,7 @@ fn digit(n: u8) -> u8
 fn put_two(out: &mut [u8], at: usize, b: u8) -> usize
     requires { at + 2 ≤ length out.old }
     ensures value { result ≡ at + 2 }
-    ensures out_after { take result out.new ≡ take at out.old ++ hexOf (b ∷ []) }
+    ensures out_after { take result out.new ≡ take at out.old ++ hex_of (b ∷ []) }
 {
     let a = put_byte(out, at, digit(b / 16));
     put_byte(out, a, digit(b % 16))
@@ -83,7 +83,7 @@ fn put_two(out: &mut [u8], at: usize, b: u8) -> usize
 pub fn put_hex(out: &mut [u8], at: usize, bytes: &[u8]) -> usize
     requires { at + 2 * length bytes.now ≤ length out.old }
     ensures value { result ≡ at + 2 * length bytes.now }
-    ensures out_after { take result out.new ≡ take at out.old ++ hexOf bytes.now }
+    ensures out_after { take result out.new ≡ take at out.old ++ hex_of bytes.now }
 {
     let n = bytes.len();
     let mut i: usize = 0;

@@ -6,6 +6,8 @@ ghost use Rattle.printing.specs.Text.{call_lines, step_words, count_words, profi
 use crate::{put, put_call, put_end, put_word};
 use drivers::Call;
 
+const STDOUT_FILENO: i32 = 1;
+
 // ── calls out of a buffer ──
 
 fn call_at(calls: &[u8], i: usize) -> Call
@@ -67,7 +69,7 @@ pub fn put_counts(out: &mut [u8], at: usize, sent: usize, asked: usize) -> usize
 pub fn show(out: &[u8], n: usize)
     requires { n ≤ length out.now }
 {
-    io::write_all(libc::STDOUT_FILENO, &out[..n]);
+    io::write_all(STDOUT_FILENO, &out[..n]);
 }
 
 pub fn put_profile(out: &mut [u8], why: u8) -> usize

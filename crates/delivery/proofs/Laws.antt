@@ -22,6 +22,12 @@ use Rattle.delivery.specs.declared.Outcome.TheVariants as outcome
 pub front_long : (n : ℕ) (bs : List ℕ) → n ≤ length bs → n ≡ length (take n bs)
 front_long n bs h = omega (arith, length-take n bs)
 
+-- what a copy into the front leaves
+pub copied : (n : ℕ) (from old new : List ℕ) → n ≤ length from → new ≡ take n from →
+    new ++ drop n old ≡ take (length (take n from)) (take n from) ++ drop (length (take n from)) old
+copied n from old new h e =
+    rw (take_all (length (take n from)) (take n from) (omega arith), ← front_long n from h) (ap (λ (l : List ℕ). l ++ drop n old) e)
+
 -- a list that is copied whole
 pub at_front_lem : (new from old after : List ℕ) → new ≡ from → after ≡ take (length from) from ++ drop (length from) old → after ≡ at_front new old
 unfolding at_front

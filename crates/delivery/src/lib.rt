@@ -38,7 +38,7 @@ fn put_messages(from: &[u8], n: usize, messages: &mut [u8])
     ensures { messages.new ≡ at_front (joined (messages_in n from.now)) messages.old }
 {
     let end = 3 * n;
-    bytes::copy(&from[..end], messages);
+    messages[..end].copy_from_slice(&from[..end]);
 }
 
 fn put_calls(from: &[u8], n: usize, calls: &mut [u8])
@@ -48,7 +48,7 @@ fn put_calls(from: &[u8], n: usize, calls: &mut [u8])
     ensures { calls.new ≡ at_front (encode (calls_in n from.now)) calls.old }
 {
     let end = 16 * n;
-    bytes::copy(&from[..end], calls);
+    calls[..end].copy_from_slice(&from[..end]);
 }
 
 // A stopped event: the call that waits for its answer, or number 14.

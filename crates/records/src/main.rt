@@ -12,8 +12,9 @@ mod uses;
 ghost use Rattle.std.specs.Prelude.{◌≤◌, length};
 ghost use Rattle.io.specs.Counts.{IsPrefixLen};
 
-use libc::STDIN_FILENO;
 use session::Session;
+
+const STDIN_FILENO: i32 = 0;
 
 // The session that there is, how many bytes its profile has, and whether the input goes on.
 #[derive(Clone, Copy)]

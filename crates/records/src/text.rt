@@ -1,5 +1,5 @@
 // What is written, word by word.
-use libc::STDOUT_FILENO;
+const STDOUT_FILENO: i32 = 1;
 
 pub fn say(text: &[u8]) {
     io::write_all(STDOUT_FILENO, text);

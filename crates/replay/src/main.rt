@@ -14,8 +14,10 @@ ghost use Rattle.io.specs.Counts.{IsPrefixLen};
 ghost use Rattle.profile.specs.Profile.{verdict};
 ghost use Rattle.definition.specs.Shape.{well_shaped};
 
-use libc::STDIN_FILENO;
 use session::Session;
+use std::rt::Env;
+
+const STDIN_FILENO: i32 = 0;
 
 // A number of the recording, or how many bytes a part of it has, if the recording has it.
 #[derive(Clone, Copy)]
@@ -271,8 +273,18 @@ fn is_dump(word: &[u8]) -> bool {
     (word[0] == b'-') & (word[1] == b'-') & (word[2] == b'd')
 }
 
-fn main() {
+// The word behind the program's name; none where it is missing, or longer than the room.
+fn first_word(rt: &HostRuntime, room: &mut [u8]) -> usize
+    ensures { IsPrefixLen result room.new }
+{
+    match rt.arg(1, room) {
+        Ok(n) => n,
+        Err(_) => 0,
+    }
+}
+
+fn main(rt: HostRuntime) {
     let mut word = io::buffer();
-    let n = os::arg(1, &mut word);
+    let n = first_word(&rt, &mut word);
     all(is_dump(&word[..n]));
 }

@@ -14,6 +14,8 @@ ghost use Rattle.run.specs.Said.{done_text, outcome_text, event_text, goes_on};
 
 use delivery::Outcome;
 use session::Session;
+use std::fs::File;
+use std::os::fd::AsRawFd;
 
 // Where the text of an event ends, whether the next event may follow, and how many answers this one used.
 #[derive(Clone, Copy)]
@@ -33,16 +35,13 @@ struct Next {
 // ── files ──
 
 // A missing file counts as empty.
-fn load(path: &[u8], room: &mut [u8]) -> usize
+fn load(rt: &HostRuntime, path: &str, room: &mut [u8]) -> usize
     ensures { IsPrefixLen result room.new }
 {
-    let fd = os::open_read(path);
-    if fd < 0 {
-        return 0;
+    match File::open(rt, path) {
+        Ok(file) => io::read_full(file.as_raw_fd(), room),
+        Err(_) => 0,
     }
-    let n = io::read_full(fd, room);
-    libc::close(fd);
-    n
 }
 
 // ── what became of an event ──
@@ -178,13 +177,13 @@ fn all(profile: &[u8], events: &[u8], answers: &[u8]) {
     }
 }
 
-fn main() {
+fn main(rt: HostRuntime) {
     let mut profile = io::large_buffer();
     let mut events = io::large_buffer();
     let mut answers = io::large_buffer();
-    let p = load(b"profile.bin", &mut profile);
-    let e = load(b"events.bin", &mut events);
-    let a = load(b"answers.bin", &mut answers);
+    let p = load(&rt, "profile.bin", &mut profile);
+    let e = load(&rt, "events.bin", &mut events);
+    let a = load(&rt, "answers.bin", &mut answers);
     let why = profile::examine(&profile[..p]);
     if why != 0 {
         let mut out = [0u8; 64];

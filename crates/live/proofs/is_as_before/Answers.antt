@@ -1,0 +1,9 @@
+use Rattle.live.proofs.Laws.{first-list, later-list}
+use borrow.Author.Rules.{rules}
+use Rattle.live.proofs.is_as_before.Goals as goal
+
+pub returns-then-not-before : goal.returns-then-not-before
+returns-then-not-before c = first-list _ _ c.if-not-before.true
+
+pub returns : goal.returns
+returns c = later-list _ _ _ c.if-not-before.false c.same_strips.ensures

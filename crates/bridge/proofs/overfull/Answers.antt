@@ -1,0 +1,38 @@
+use mathlib.Core.Path.{◌≡◌, ◌∙◌}
+use native.Mathlib.Omega.{arith}
+use lib.ListN.{length, take}
+use Rattle.base.specs.KeyedLaws.{long}
+use Rattle.bridge.proofs.Fit.{bank-low, live-is, silenced-few}
+use Rattle.bridge.proofs.HandLaws.{rig-is}
+use Rattle.bridge.proofs.TalkLaws.{adds-few, rig-now, over-so}
+use borrow.Author.Rules.{rules}
+use Rattle.bridge.proofs.overfull.Goals as goal
+
+targets_long : (c : goal.Start) → length c.args.session.silenced.targets ≡ 256
+targets_long c = search (long, c.well_formed.0.1.1.1.1.1.1.1.1.1.1.1.0)
+
+levels_long : (c : goal.Start) → length c.args.session.silenced.levels ≡ 256
+levels_long c = search (long, c.well_formed.0.1.1.1.1.1.1.1.1.1.1.1.0)
+
+pub current_bank-here-requires : goal.current_bank-here-requires
+current_bank-here-requires c =
+    let b = c in
+    record { bank_bound = bank-low b.args.profile.now b.args.session b.requires.session_value b.requires.profile_value; banks_value = live-is b.args.profile.now b.args.session b.requires.session_value }
+
+pub added_by-added-requires : goal.added_by-added-requires
+added_by-added-requires c =
+    let b = c in
+    record { count_bound = c.current_bank-here.ensures.few; hushed_bound = silenced-few b.args.profile.now b.args.session b.requires.session_value }
+
+pub overflow_add-result : goal.overflow_add-result
+overflow_add-result c =
+    let b = c in
+    omega (arith, silenced-few b.args.profile.now b.args.session b.requires.session_value, c.added_by-added.ensures, adds-few b.args.profile.now c.current_bank-here.result b.args.session.lamps c.press_of-press.result (take b.args.session.silenced.count b.args.session.silenced.targets))
+
+pub returns : goal.returns
+returns c =
+    let b = c in
+    let few = silenced-few b.args.profile.now b.args.session b.requires.session_value in
+    over-so b.args.profile.now b.args.session c.current_bank-here.result b.args.e.time
+    (rig-now b.args.profile.now b.args.session ∙ rig-is b.args.profile.now b.args.session b.args.session.bank _ c.current_bank-here.ensures)
+    (omega (arith, few, targets_long b)) (omega (arith, few, levels_long b)) few b.args.e.what b.requires.what_value c.press_of-press.result c.press_of-press.ensures c.added_by-added.result c.added_by-added.ensures

@@ -1,0 +1,8 @@
+-- `replay::one_restore` meets its contract. Assumes nothing.
+use Rattle.std.proofs.Common.{rules}
+use Rattle.state.proofs.Restoring.{restoring-well}
+use Rattle.replay.proofs.one_restore.Goals as goal
+
+pub returns : goal.returns
+returns c =
+    rw c.restore-r.ensures (restoring-well _ _ _ c.requires)

@@ -9,8 +9,6 @@ use lib.Dec.{eqb, ltb, leb}
 use lib.ListN.{length, take, get_or}
 use lib.Ieee.{Float}
 use lib.IntN.{ℤ}
-use denote.Enum.Declared.{tag_of}
-use types.Run.{OneOf}
 use borrow.Author.Tests.{ltb-true, ltb-false, lt-ltb, ne_eqb}
 use Rattle.base.specs.Choice.{pick}
 use Rattle.base.specs.RangeLaws.{and_right}
@@ -23,7 +21,6 @@ use Rattle.protocol.specs.declared.Found.{Found}
 use Rattle.protocol.specs.declared.Found.TheVariants as channel
 use Rattle.protocol.specs.declared.Event.{Event}
 use Rattle.protocol.specs.declared.Event.TheVariants as event
-use Rattle.protocol.specs.contracts.Event as events
 use Rattle.profile.specs.Profile.{bank_count, verdict}
 use Rattle.profile.specs.Accepted.{few-banks}
 use Rattle.lookup.specs.Lookup.{select_of}
@@ -37,7 +34,6 @@ use Rattle.session.specs.declared.Lamps.{Lamps}
 use Rattle.session.specs.declared.Moves.{Moves}
 use Rattle.event.specs.declared.Input.{Input}
 use Rattle.event.specs.declared.Input.TheVariants as input
-use Rattle.event.specs.contracts.Input as inputs
 use Rattle.definition.specs.Banks.{next_bank}
 use Rattle.definition.specs.Muting.{added_by_solo, added_by_mute}
 use Rattle.definition.specs.Buttons.{Press, run_command, page, walk, rec, select_as, command, or_first, press_of, button}
@@ -271,29 +267,18 @@ module _ (p : List ℕ) (here there : Current) (l : Lamps) (n : ℕ) (ts : List 
 
 -- ── which event it is ──
 
-no-tag : OneOf (1 ∷ 2 ∷ 3 ∷ 4 ∷ []) 0 → ⊥
-no-tag (inl q) = omega arith
-no-tag (inr (inl q)) = omega arith
-no-tag (inr (inr (inl q))) = omega arith
-no-tag (inr (inr (inr q))) = omega arith
-
 -- an event that is no message is no hand's and no press, and is for something
-pub unheard : (w : Input) → OneOf (1 ∷ 2 ∷ 3 ∷ 4 ∷ []) (tag_of inputs.the_type w) → (hand.None ≡ hand_of w) × (press.None ≡ press_in w) × (false ≡ is_nothing w)
-unheard (input.Midi m) k = absurd (no-tag k)
+pub unheard : (w : Input) → ((m : Event) → w ≡ input.Midi m → ⊥) → (hand.None ≡ hand_of w) × (press.None ≡ press_in w) × (false ≡ is_nothing w)
+unheard (input.Midi m) k = absurd (k m refl)
 unheard input.Tick k = (refl, refl, refl)
 unheard input.PushState k = (refl, refl, refl)
 unheard input.PushTransport k = (refl, refl, refl)
 unheard input.FlashBank k = (refl, refl, refl)
 
-no-button : OneOf (0 ∷ 1 ∷ 3 ∷ []) 2 → ⊥
-no-button (inl q) = omega arith
-no-button (inr (inl q)) = omega arith
-no-button (inr (inr q)) = omega arith
-
-unpressed : (m : Event) → OneOf (0 ∷ 1 ∷ 3 ∷ []) (tag_of events.the_type m) → press.None ≡ press_in (input.Midi m)
+unpressed : (m : Event) → ((b : Button) → m ≡ event.Button b → ⊥) → press.None ≡ press_in (input.Midi m)
 unpressed (event.Fader ch value) k = refl
 unpressed (event.Encoder ch delta) k = refl
-unpressed (event.Button b) k = absurd (no-button k)
+unpressed (event.Button b) k = absurd (k b refl)
 unpressed event.Other k = refl
 
 module _ (w : Input) (m : Event) (e : w ≡ input.Midi m) where
@@ -304,7 +289,7 @@ module _ (w : Input) (m : Event) (e : w ≡ input.Midi m) where
   pub hand-encoder : (ch : ℕ) (delta back : ℤ) → m ≡ event.Encoder ch delta → back ≡ delta → hand.Encoder ch back ≡ hand_of w
   hand-encoder ch delta back q r = rw (e, q, r)
 
-  pub no-press : OneOf (0 ∷ 1 ∷ 3 ∷ []) (tag_of events.the_type m) → press.None ≡ press_in w
+  pub no-press : ((b : Button) → m ≡ event.Button b → ⊥) → press.None ≡ press_in w
   no-press k = rw e (unpressed m k)
 
   pub a-press : (b : Button) → m ≡ event.Button b → b.pressed ≡ true → press.Of b ≡ press_in w

@@ -10,9 +10,6 @@ use borrow.Author.Rules.{rules}
 use Rattle.bridge.proofs.in_control.Goals as goal
 
 -- `bridge::in_control` meets its contract. Assumes nothing.
-opened-long : (c : goal.Start) → length c.args.session.opened ≡ 16
-opened-long c = search (long, c.well_formed.0.1.1.1.1.1.1.1.1.1.1.1)
-
 pub current_bank-here-requires : goal.current_bank-here-requires
 current_bank-here-requires c =
     let b = c in
@@ -30,6 +27,7 @@ returns c answers ms cs =
     let b = c in
     let k = c in
     let v = c in
+    let opened-long : length c.args.session.opened ≡ 16 = search (long, c.well_formed.0.1.1.1.1.1.1.1.1.1.1.1) in
     in_control b.args.profile.now b.args.session b.args.channel b.args.value answers k.current_bank-here.result k.current_bank-here.ensures
-    v.in_control-verdict.result v.in_control-verdict.ensures b.requires.marks_value b.requires.profile_value b.requires.session_value (opened-long b) b.requires.channel_bound c.nothing-o.result c.nothing-o.ensures
+    v.in_control-verdict.result v.in_control-verdict.ensures b.requires.marks_value b.requires.profile_value b.requires.session_value opened-long b.requires.channel_bound c.nothing-o.result c.nothing-o.ensures
     c.faded-t.result c.faded-t.ensures.fades c.faded-t.ensures.keeps_places ms cs

@@ -1,120 +1,94 @@
 -- `bridge::on_encoder` meets its contract. Assumes nothing.
-use Prim.Native.Nat.{◌+◌, ◌<◌}
+use Prim.Native.Nat.{ℕ, ◌+◌, ◌<◌}
 use mathlib.Core.Path.{◌≡◌, sym, ap, ◌∙◌, subst}
+use mathlib.Core.Bool.{true}
+use mathlib.Core.List.{List}
 use lib.IntN.{ℤ}
 use lib.ListN.{length}
 use mir.Syntax.{w32}
-use mir.Val.{to_z, of_z}
+use mir.Val.{SFits, to_z, of_z}
 use mir.ValLaws.{to_z-of_z}
 use Rattle.base.specs.KeyedLaws.{long}
-use Rattle.base.specs.declared.Place.TheVariants.{At}
-use Rattle.lookup.specs.Lookup.{dest_at, encoder_place}
+use Rattle.lookup.specs.Lookup.{dest_at}
 use Rattle.hands.specs.Sums.{SumsFit}
 use Rattle.session.specs.Session.{is_dest, seen_turns, turn}
+use Rattle.session.specs.declared.Session.{Session}
 use Rattle.base.specs.Keyed.{find}
-use Rattle.definition.specs.Faders.{declined_by}
+use Rattle.definition.specs.Faders.{in_range, declined_by}
+use Rattle.definition.specs.Shape.{well_shaped}
 use Rattle.bridge.proofs.Fit.{turns-few, turns-wired, sums-low}
 use Rattle.bridge.proofs.HandLaws.{sums-fit, turn-room, place-encoder, place-low, unwired, unturned, turned}
-use borrow.Author.Rules.{rules}
 use Rattle.bridge.proofs.on_encoder.Goals as goal
 
--- `bridge::on_encoder` meets its contract. Assumes nothing.
--- the lengths of the session's arrays
-records-long : (c : goal.Start) → length c.args.session.turns.records ≡ 136
-records-long c = search (long, c.well_formed.0.1.1.1.1.1.1.1.1)
+-- no sum overflows by the turn, which the machine keeps as it is
+fit : (p : List ℕ) (s : Session) (delta : ℤ) → length s.turns.records ≡ 136 → length s.turns.sums ≡ 136 → well_shaped p s ≡ true → in_range delta ≡ true →
+    SFits w32 delta → SumsFit s.turns.sums s.turns.count (to_z w32 (of_z w32 delta))
+fit p s delta records-long sums-long e small fits =
+    subst (λ (z : ℤ). SumsFit s.turns.sums s.turns.count z) (sym (to_z-of_z w32 delta fits))
+    (sums-fit p s.turns records-long sums-long (turns-few p s e) delta small (sums-low p s e))
 
-sums-long : (c : goal.Start) → length c.args.session.turns.sums ≡ 136
-sums-long c = search (long, c.well_formed.0.1.1.1.1.1.1.1.1)
-
-opened-long : (c : goal.Start) → length c.args.session.opened ≡ 16
-opened-long c = search (long, c.well_formed.0.1.1.1.1.1.1.1.1.1.1.1)
+-- why the turn is declined
+why : (p : List ℕ) (s : Session) (delta : ℤ) (k w : ℕ) → SFits w32 delta →
+    let l = seen_turns p s.turns in
+    w ≡ declined_by (find (is_dest (dest_at p k)) l) (to_z w32 (of_z w32 delta)) l → w ≡ declined_by (find (is_dest (dest_at p k)) l) delta l
+why p s delta k w fits q =
+    let l = seen_turns p s.turns in
+    q ∙ ap (λ (z : ℤ). declined_by (find (is_dest (dest_at p k)) l) z l) (to_z-of_z w32 delta fits)
 
 pub returns-in_default : goal.returns-in_default
-returns-in_default d =
-    let c = d.before in
-    let r = c in
-    let b = r in
-    rw d.stays.ensures
-    (unwired b.args.profile.now b.args.session b.args.channel b.args.delta b.requires.session_value c.nothing-o.result c.nothing-o.ensures (sym r.encoder_record.ensures ∙ c.in_default.is))
-
--- where the encoder's record is
-here : (c : goal.In-At-2) →
-    let b = c in
-    encoder_place b.args.profile.now b.args.session.bank (b.args.channel + 1) ≡ At c.in-At.at
-here c = sym c.encoder_record.ensures ∙ c.in-At.is
+returns-in_default c =
+    rw c.stays.ensures
+    (unwired c.args.profile.now c.args.session c.args.channel c.args.delta c.requires.session_value c.nothing-o.result c.nothing-o.ensures
+    (sym c.encoder_record.ensures ∙ c.in_default.is))
 
 pub overflow_cast-k : goal.overflow_cast-k
 overflow_cast-k c =
-    let b = c in
-    let h : c.in-At.at < 65536 = place-low b.args.profile.now _ _ _ (here c) b.requires.profile_value in
+    let h : c.in-At.at < 65536 =
+    place-low c.args.profile.now c.args.session.bank (c.args.channel + 1) c.in-At.at (sym c.encoder_record.ensures ∙ c.in-At.is) c.requires.profile_value in
     record { fits = h }
-
--- no sum overflows by the turn, which the machine keeps as it is
-fit : (c : goal.In-At) →
-    let b = c in
-    SumsFit b.args.session.turns.sums b.args.session.turns.count (to_z w32 (of_z w32 b.args.delta))
-fit c =
-    let b = c in
-    let p = b.args.profile.now in
-    let s = b.args.session in
-    let e = b.requires.session_value in
-    subst (λ (z : ℤ). SumsFit s.turns.sums s.turns.count z) (sym (to_z-of_z w32 b.args.delta b.ranges.delta))
-    (sums-fit p s.turns (records-long b) (sums-long b) (turns-few p s e) b.args.delta b.requires.delta_value (sums-low p s e))
 
 pub turn_declined-why-requires : goal.turn_declined-why-requires
 turn_declined-why-requires c =
-    let k = c in
-    let b = k in
-    let p = b.args.profile.now in
-    let s = b.args.session in
-    let e = b.requires.session_value in
-    record { n_bound = turns-few p s e; records_value = turns-wired p s e; k_value = place-encoder p _ _ _ (here k); sums_fit = fit k }
-
--- why the turn is declined
-why : (c : goal.After-turn_declined-why) →
-    let k = c in
-    let b = k in
-    let l = seen_turns b.args.profile.now b.args.session.turns in
-    c.turn_declined-why.result ≡ declined_by (find (is_dest (dest_at b.args.profile.now k.in-At.at)) l) b.args.delta l
-why c =
-    let k = c in
-    let b = k in
-    let l = seen_turns b.args.profile.now b.args.session.turns in
-    c.turn_declined-why.ensures
-    ∙ ap (λ (z : ℤ). declined_by (find (is_dest (dest_at b.args.profile.now k.in-At.at)) l) z l) (to_z-of_z w32 b.args.delta b.ranges.delta)
+    let p = c.args.profile.now in
+    let s = c.args.session in
+    let e = c.requires.session_value in
+    let records-long : length s.turns.records ≡ 136 = search (long, c.well_formed.0.1.1.1.1.1.1.1.1) in
+    let sums-long : length s.turns.sums ≡ 136 = search (long, c.well_formed.0.1.1.1.1.1.1.1.1) in
+    record {
+      n_bound = turns-few p s e;
+      records_value = turns-wired p s e;
+      k_value = place-encoder p s.bank (c.args.channel + 1) c.in-At.at (sym c.encoder_record.ensures ∙ c.in-At.is);
+      sums_fit = fit p s c.args.delta records-long sums-long e c.requires.delta_value c.ranges.delta;
+    }
 
 pub returns-then-why-ne0 : goal.returns-then-why-ne0
-returns-then-why-ne0 d =
-    let c = d.before in
-    let k = c in
-    let b = k in
-    rw d.stays2.ensures
-    (unturned b.args.profile.now b.args.session b.args.channel b.args.delta b.requires.session_value k.in-At.at c.turn_declined-why.result (here k) (why c) c.if-why-ne0.true)
+returns-then-why-ne0 c =
+    let p = c.args.profile.now in
+    let s = c.args.session in
+    rw c.stays-then-why-ne0.ensures
+    (unturned p s c.args.channel c.args.delta c.requires.session_value c.in-At.at c.turn_declined-why.result (sym c.encoder_record.ensures ∙ c.in-At.is)
+    (why p s c.args.delta c.in-At.at c.turn_declined-why.result c.ranges.delta c.turn_declined-why.ensures) c.if-why-ne0.true)
 
 pub turned-count-requires : goal.turned-count-requires
 turned-count-requires c =
-    let t = c in
-    let k = t in
-    let b = k in
-    let p = b.args.profile.now in
-    let s = b.args.session in
-    let e = b.requires.session_value in
-    turn-room p s.turns (records-long b) (sums-long b) (turns-few p s e) k.in-At.at (to_z w32 (of_z w32 b.args.delta)) (turns-wired p s e) (place-encoder p _ _ _ (here k)) (fit k)
-    (sym t.turn_declined-why.ensures ∙ c.if-why-ne0.false)
+    let p = c.args.profile.now in
+    let s = c.args.session in
+    let e = c.requires.session_value in
+    let records-long : length s.turns.records ≡ 136 = search (long, c.well_formed.0.1.1.1.1.1.1.1.1) in
+    let sums-long : length s.turns.sums ≡ 136 = search (long, c.well_formed.0.1.1.1.1.1.1.1.1) in
+    turn-room p s.turns records-long sums-long (turns-few p s e) c.in-At.at (to_z w32 (of_z w32 c.args.delta)) (turns-wired p s e)
+    (place-encoder p s.bank (c.args.channel + 1) c.in-At.at (sym c.encoder_record.ensures ∙ c.in-At.is))
+    (fit p s c.args.delta records-long sums-long e c.requires.delta_value c.ranges.delta) (sym c.turn_declined-why.ensures ∙ c.if-why-ne0.false)
 
 pub returns : goal.returns
 returns c =
-    let u = c in
-    let t = u in
-    let k = t in
-    let b = k in
-    let p = b.args.profile.now in
-    let s = b.args.session in
-    let i = k.in-At.at in
+    let p = c.args.profile.now in
+    let s = c.args.session in
+    let i = c.in-At.at in
+    let opened-long : length s.opened ≡ 16 = search (long, c.well_formed.0.1.1.1.1.1.1.1.1.1.1.1) in
     rw c.turned-t.ensures
-    (turned p s b.args.channel b.args.delta b.requires.session_value i _ c.nothing-o-2.result b.requires.profile_value (opened-long b) b.requires.channel_bound b.requires.delta_value (here k)
-    (sym (why t) ∙ u.if-why-ne0.false)
-    (u.turned-count.ensures.sums_after ∙ ap (λ (z : ℤ). turn (dest_at p i) z (seen_turns p s.turns)) (to_z-of_z w32 b.args.delta b.ranges.delta))
-    u.turned-count.ensures.records_after
-    u.turned-count.ensures.upper_bound
-    c.nothing-o-2.ensures)
+    (turned p s c.args.channel c.args.delta c.requires.session_value i _ c.nothing-o-2.result c.requires.profile_value opened-long c.requires.channel_bound
+    c.requires.delta_value (sym c.encoder_record.ensures ∙ c.in-At.is)
+    (sym (why p s c.args.delta i c.turn_declined-why.result c.ranges.delta c.turn_declined-why.ensures) ∙ c.if-why-ne0.false)
+    (c.turned-count.ensures.sums_after ∙ ap (λ (z : ℤ). turn (dest_at p i) z (seen_turns p s.turns)) (to_z-of_z w32 c.args.delta c.ranges.delta))
+    c.turned-count.ensures.records_after c.turned-count.ensures.upper_bound c.nothing-o-2.ensures)

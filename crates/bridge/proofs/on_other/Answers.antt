@@ -11,14 +11,10 @@ use Rattle.bridge.proofs.TalkLaws.{eleven_if, talked-undone, talked-done}
 use borrow.Author.Rules.{rules}
 use Rattle.bridge.proofs.on_other.Goals as goal
 
-opened-long : (c : goal.Start) → length c.args.session.opened ≡ 16
-opened-long c = search (long, c.well_formed.0.1.1.1.1.1.1.1.1.1.1.1)
-
 pub returns-then-overfull : goal.returns-then-overfull
-returns-then-overfull d =
-    let c = d.before in
+returns-then-overfull c =
     let b = c in
-    rw d.stays.ensures
+    rw c.stays.ensures
     (declines _ 11 b.args.profile.now b.args.session _ _
     (step-declines (view_of b.args.profile.now) (seen b.args.profile.now b.args.session) b.args.e b.args.answers.now 10
     (sym c.overfull.ensures ∙ ap eleven_if c.if-overfull.true)))
@@ -31,11 +27,11 @@ talk-t-requires c =
     let b = c in record { profile_value = b.requires.profile_value; session_value = b.requires.session_value; in_bounds = b.requires.in_bounds; in_bounds_2 = b.requires.in_bounds_2; what_value = b.requires.what_value; time_value = sym c.overfull.ensures ∙ ap eleven_if c.if-overfull.false; at_value = c.setting_of-at.ensures; targets_value = (refl, refl) }
 
 pub returns-then-not-f : goal.returns-then-not-f
-returns-then-not-f d =
-    let c = d.before in
+returns-then-not-f c =
     let b = c in
-    rw d.stays2.ensures
-    (talked-undone b.args.profile.now b.requires.profile_value b.args.session (well-seen b.args.profile.now b.args.session (opened-long b) b.requires.session_value) b.args.e b.args.answers.now
+    let opened-long : length c.args.session.opened ≡ 16 = search (long, c.well_formed.0.1.1.1.1.1.1.1.1.1.1.1) in
+    rw c.stays-then-not-f.ensures
+    (talked-undone b.args.profile.now b.requires.profile_value b.args.session (well-seen b.args.profile.now b.args.session opened-long b.requires.session_value) b.args.e b.args.answers.now
     (sym c.overfull.ensures ∙ ap eleven_if c.if-overfull.false) _ _ c.talk-t.result _ _ _ _ c.talk-t.ensures (not-true _ c.if-not-f.true))
 
 pub after-s-requires : goal.after-s-requires
@@ -47,6 +43,7 @@ after-s-requires c =
 pub returns : goal.returns
 returns c =
     let b = c in
-    talked-done b.args.profile.now b.requires.profile_value b.args.session (well-seen b.args.profile.now b.args.session (opened-long b) b.requires.session_value) b.args.e b.args.answers.now
+    let opened-long : length c.args.session.opened ≡ 16 = search (long, c.well_formed.0.1.1.1.1.1.1.1.1.1.1.1) in
+    talked-done b.args.profile.now b.requires.profile_value b.args.session (well-seen b.args.profile.now b.args.session opened-long b.requires.session_value) b.args.e b.args.answers.now
     (sym c.overfull.ensures ∙ ap eleven_if c.if-overfull.false) _ _ c.talk-t.result _ _ _ _ c.talk-t.ensures b.requires.what_value (not-false _ c.if-not-f.false) _ c.setting_of-at.ensures
     _ c.after-s.ensures.lasts c.after-s.ensures.keeps_places (places b.args.profile.now b.args.session b.requires.session_value)

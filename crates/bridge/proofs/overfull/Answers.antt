@@ -8,12 +8,6 @@ use Rattle.bridge.proofs.TalkLaws.{adds-few, rig-now, over-so}
 use borrow.Author.Rules.{rules}
 use Rattle.bridge.proofs.overfull.Goals as goal
 
-targets_long : (c : goal.Start) → length c.args.session.silenced.targets ≡ 256
-targets_long c = search (long, c.well_formed.0.1.1.1.1.1.1.1.1.1.1.1.0)
-
-levels_long : (c : goal.Start) → length c.args.session.silenced.levels ≡ 256
-levels_long c = search (long, c.well_formed.0.1.1.1.1.1.1.1.1.1.1.1.0)
-
 pub current_bank-here-requires : goal.current_bank-here-requires
 current_bank-here-requires c =
     let b = c in
@@ -33,6 +27,8 @@ pub returns : goal.returns
 returns c =
     let b = c in
     let few = silenced-few b.args.profile.now b.args.session b.requires.session_value in
+    let targets_long : length c.args.session.silenced.targets ≡ 256 = search (long, c.well_formed.0.1.1.1.1.1.1.1.1.1.1.1.0) in
+    let levels_long : length c.args.session.silenced.levels ≡ 256 = search (long, c.well_formed.0.1.1.1.1.1.1.1.1.1.1.1.0) in
     over-so b.args.profile.now b.args.session c.current_bank-here.result b.args.e.time
     (rig-now b.args.profile.now b.args.session ∙ rig-is b.args.profile.now b.args.session b.args.session.bank _ c.current_bank-here.ensures)
-    (omega (arith, few, targets_long b)) (omega (arith, few, levels_long b)) few b.args.e.what b.requires.what_value c.press_of-press.result c.press_of-press.ensures c.added_by-added.result c.added_by-added.ensures
+    (omega (arith, few, targets_long)) (omega (arith, few, levels_long)) few b.args.e.what b.requires.what_value c.press_of-press.result c.press_of-press.ensures c.added_by-added.result c.added_by-added.ensures

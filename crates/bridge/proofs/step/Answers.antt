@@ -1,6 +1,8 @@
 -- `bridge::step` meets its contract. Assumes nothing.
 use Prim.Native.Nat.{ℕ}
 use native.Mathlib.Omega.{arith}
+use mathlib.Core.List.{List}
+use Rattle.session.specs.declared.Session.{Session}
 use mathlib.Core.Path.{◌≡◌, sym, ◌∙◌}
 use lib.ListN.{length}
 use borrow.Author.Tests.{not-true, not-false, eq-eqb, ne_eqb}
@@ -15,99 +17,63 @@ use Rattle.bridge.proofs.StepLaws.{stays, declines, whole-declines, passes, pass
 use borrow.Author.Rules.{rules}
 use Rattle.bridge.proofs.step.Goals as goal
 
--- `bridge::step` meets its contract. Assumes nothing.
--- where the profile was examined, the event's start
-abbrev begun : goal.After-examine-why → goal.Start
-begun x = x.before.before.before.before.before.before
-
--- where the session's shape was tested, the profile's examination
-abbrev examined : goal.After-shaped_parts → goal.After-examine-why
-examined x = x.before.before.before.before.before.before.before.before.before.before
-
-levels_long : (c : goal.Start) → length c.args.session.silenced.levels ≡ 256
-levels_long c = search (long, c.well_formed.0.1.1.1.1.1.1.1.1.1.1.1.0)
-
--- the test says of the session whether it is well shaped
-told : (x : goal.After-shaped_parts) → let b = begun (examined x) in x.shaped_parts.result ≡ well_shaped b.args.profile.now b.args.session
-told x =
-    let b = begun (examined x) in
-    x.shaped_parts.ensures b.args.session (own-parts b.args.session (levels_long b))
-
--- what the numbers 1 to 9 say of the event
-abbrev number_of : goal.After-examine-why → ℕ
-number_of x =
-    let b = begun x in
-    declined_of b.args.profile.now b.args.session (length b.args.messages.now) (length b.args.calls.now)
-
--- an event that one of them declines
-declined-by : (x : goal.After-examine-why) (why : ℕ) → number_of x ≡ why → (why ≡ 0 → ⊥) →
-    let b = begun x in
-    Delivers
-    (whole b.args.profile.now b.args.session b.args.event.now b.args.answers.now (length b.args.messages.now) (length b.args.calls.now))
-    b.args.profile.now b.args.session b.args.messages.now b.args.calls.now (stays (outcome.Refused why) b.args.session) b.args.messages.now
-    b.args.calls.now
-declined-by x why q n =
-    let b = begun x in
-    declines _ why _ _ _ _ (whole-declines b.args.profile.now b.args.session b.args.event.now b.args.answers.now _ _ why q n)
-
--- one that none of them declines
-passed : (r : goal.After-read_event) → number_of (examined r) ≡ 0
-passed r =
-    let x = r in
-    rw (
-      ← (examined x).examine.ensures,
-      eq-eqb _ _ x.if-why-ne0.false,
-      sym (told x) ∙ not-false x.shaped_parts.result r.if-not-shaped_parts.false-raw,
-      r.if-messages-calls.false,
-    )
+-- an event that one of the numbers 1 to 9 declines
+declined-by : (profile : List ℕ) (session : Session) (event answers messages calls : List ℕ) (why : ℕ) →
+    declined_of profile session (length messages) (length calls) ≡ why → (why ≡ 0 → ⊥) →
+    Delivers (whole profile session event answers (length messages) (length calls)) profile session messages calls (stays (outcome.Refused why) session) messages calls
+declined-by profile session event answers messages calls why q n = declines _ why _ _ _ _ (whole-declines profile session event answers _ _ why q n)
 
 pub returns-then-why-ne0 : goal.returns-then-why-ne0
-returns-then-why-ne0 d =
-    let c = d.before in
-    rw d.stays.ensures
-    (declined-by c _ (rw (← c.examine-why.ensures, ne_eqb _ _ c.if-why-ne0.true)) c.if-why-ne0.true)
+returns-then-why-ne0 c =
+    rw c.stays.ensures
+    (declined-by c.args.profile.now c.args.session c.args.event.now c.args.answers.now c.args.messages.now c.args.calls.now _ (rw (← c.examine-why.ensures, ne_eqb _ _ c.if-why-ne0.true)) c.if-why-ne0.true)
 
 pub returns-then-not-shaped_parts : goal.returns-then-not-shaped_parts
-returns-then-not-shaped_parts d =
-    let c = d.before in
-    let x = c in
-    rw d.stays2.ensures
-    (declined-by (examined x) 8
-    (rw (← (examined x).examine.ensures, eq-eqb _ _ x.if-why-ne0.false, sym (told x) ∙ not-true x.shaped_parts.result c.if-not-shaped_parts.true-raw))
+returns-then-not-shaped_parts c =
+    let levels_long : length c.args.session.silenced.levels ≡ 256 = search (long, c.well_formed.0.1.1.1.1.1.1.1.1.1.1.1.0) in
+    let told : c.shaped_parts.result ≡ well_shaped c.args.profile.now c.args.session = c.shaped_parts.ensures c.args.session (own-parts c.args.session levels_long) in
+    rw c.stays-then-not-shaped_parts.ensures
+    (declined-by c.args.profile.now c.args.session c.args.event.now c.args.answers.now c.args.messages.now c.args.calls.now 8
+    (rw (← c.examine-why.ensures, eq-eqb _ _ c.if-why-ne0.false, sym told ∙ not-true c.shaped_parts.result c.if-not-shaped_parts.true-raw))
     (λ q. omega arith))
 
 pub returns-then-messages-calls : goal.returns-then-messages-calls
-returns-then-messages-calls d =
-    let c = d.before in
-    let x = c in
-    rw d.stays3.ensures
-    (declined-by (examined x) 9
+returns-then-messages-calls c =
+    let levels_long : length c.args.session.silenced.levels ≡ 256 = search (long, c.well_formed.0.1.1.1.1.1.1.1.1.1.1.1.0) in
+    let told : c.shaped_parts.result ≡ well_shaped c.args.profile.now c.args.session = c.shaped_parts.ensures c.args.session (own-parts c.args.session levels_long) in
+    rw c.stays-then-messages-calls.ensures
+    (declined-by c.args.profile.now c.args.session c.args.event.now c.args.answers.now c.args.messages.now c.args.calls.now 9
     (rw (
-      ← (examined x).examine.ensures,
-      eq-eqb _ _ x.if-why-ne0.false,
-      sym (told x) ∙ not-false x.shaped_parts.result c.if-not-shaped_parts.false-raw,
+      ← c.examine-why.ensures,
+      eq-eqb _ _ c.if-why-ne0.false,
+      sym told ∙ not-false c.shaped_parts.result c.if-not-shaped_parts.false-raw,
       c.if-messages-calls.true,
     )) (λ q. omega arith))
 
 pub on_event-requires : goal.on_event-requires
 on_event-requires c =
-    let r = c in
-    let b = begun (examined r) in
-    let w = passes b.args.profile.now b.args.session b.args.event.now b.args.answers.now _ _ (passed r) in record { profile_value = w.accepted; session_value = w.shaped; in_bounds = w.messages; in_bounds_2 = w.calls; low_input = read_low b.args.event.now (λ j. omega (arith, c.shared_slice_known-2-1.given j)) _ (sym r.read_event.ensures ∙ c.in-Known.is) }
+    let levels_long : length c.args.session.silenced.levels ≡ 256 = search (long, c.well_formed.0.1.1.1.1.1.1.1.1.1.1.1.0) in
+    let told : c.shaped_parts.result ≡ well_shaped c.args.profile.now c.args.session = c.shaped_parts.ensures c.args.session (own-parts c.args.session levels_long) in
+    let passed : declined_of c.args.profile.now c.args.session (length c.args.messages.now) (length c.args.calls.now) ≡ 0 =
+      rw (← c.examine-why.ensures, eq-eqb _ _ c.if-why-ne0.false, sym told ∙ not-false c.shaped_parts.result c.if-not-shaped_parts.false-raw, c.if-messages-calls.false) in
+    let w = passes c.args.profile.now c.args.session c.args.event.now c.args.answers.now _ _ passed in record { profile_value = w.accepted; session_value = w.shaped; in_bounds = w.messages; in_bounds_2 = w.calls; low_input = read_low c.args.event.now (λ j. omega (arith, c.shared_slice_known-2-1.given j)) _ (sym c.read_event.ensures ∙ c.in-Known.is) }
 
 pub returns-in-Known : goal.returns-in-Known
 returns-in-Known c =
-    let r = c in
-    let b = begun (examined r) in
-    passes_on b.args.profile.now b.args.session b.args.event.now b.args.answers.now _ _ (passed r) r.read_event.result _ r.read_event.ensures
+    let levels_long : length c.args.session.silenced.levels ≡ 256 = search (long, c.well_formed.0.1.1.1.1.1.1.1.1.1.1.1.0) in
+    let told : c.shaped_parts.result ≡ well_shaped c.args.profile.now c.args.session = c.shaped_parts.ensures c.args.session (own-parts c.args.session levels_long) in
+    let passed : declined_of c.args.profile.now c.args.session (length c.args.messages.now) (length c.args.calls.now) ≡ 0 =
+      rw (← c.examine-why.ensures, eq-eqb _ _ c.if-why-ne0.false, sym told ∙ not-false c.shaped_parts.result c.if-not-shaped_parts.false-raw, c.if-messages-calls.false) in
+    passes_on c.args.profile.now c.args.session c.args.event.now c.args.answers.now _ _ passed c.read_event.result _ c.read_event.ensures
     c.in-Known.is _ _ _ _ _ c.on_event.ensures
 
 pub returns-in-Unknown : goal.returns-in-Unknown
-returns-in-Unknown d =
-    let c = d.before in
-    let r = c in
-    let b = begun (examined r) in
-    rw d.stays4.ensures
+returns-in-Unknown c =
+    let levels_long : length c.args.session.silenced.levels ≡ 256 = search (long, c.well_formed.0.1.1.1.1.1.1.1.1.1.1.1.0) in
+    let told : c.shaped_parts.result ≡ well_shaped c.args.profile.now c.args.session = c.shaped_parts.ensures c.args.session (own-parts c.args.session levels_long) in
+    let passed : declined_of c.args.profile.now c.args.session (length c.args.messages.now) (length c.args.calls.now) ≡ 0 =
+      rw (← c.examine-why.ensures, eq-eqb _ _ c.if-why-ne0.false, sym told ∙ not-false c.shaped_parts.result c.if-not-shaped_parts.false-raw, c.if-messages-calls.false) in
+    rw c.stays-in-Unknown.ensures
     (declines _ 10 _ _ _ _
-    (unread b.args.profile.now b.args.session b.args.event.now b.args.answers.now _ _ (passed r) r.read_event.result r.read_event.ensures
+    (unread c.args.profile.now c.args.session c.args.event.now c.args.answers.now _ _ passed c.read_event.result c.read_event.ensures
     c.in-Unknown.is))

@@ -10,4 +10,4 @@ pub returns-in-1 : goal.returns-in-1
 returns-in-1 c = c.added_by_solo.ensures ∙ adds-soloed _ _ _ _ _ _ c.kind.ensures _ c.channel_of-fader.ensures.value c.in-1.is
 
 pub returns-in_default : goal.returns-in_default
-returns-in_default c = adds_none _ _ _ _ _ _ c.kind.ensures c.in_default.in_default_own.rest.0.1 c.in_default.in_default_own.rest.1
+returns-in_default c = adds_none _ _ _ _ _ _ c.kind.ensures c.in_default.in_default-own.rest.0.1 c.in_default.in_default-own.rest.1

@@ -13,4 +13,4 @@ pub returns-in-3 : goal.returns-in-3
 returns-in-3 c = c.selected_by.ensures ∙ bank-selected _ _ _ _ c.kind.ensures _ c.channel_of.ensures.value c.in-3.is
 
 pub returns-in_default : goal.returns-in_default
-returns-in_default c = bank-stays _ _ _ _ c.kind.ensures c.in_default.in_default_own.rest.0.0.1 c.in_default.in_default_own.rest.0.1 c.in_default.in_default_own.rest.1
+returns-in_default c = bank-stays _ _ _ _ c.kind.ensures c.in_default.in_default-own.rest.0.0.1 c.in_default.in_default-own.rest.0.1 c.in_default.in_default-own.rest.1

@@ -18,4 +18,4 @@ pub returns-in-3 : goal.returns-in-3
 returns-in-3 c = other-select _ _ _ _ _ _ _ _ _ c.select.result _ _ _ c.kind.ensures c.channel_of-channel.ensures.value _ c.in-3.is c.select.ensures
 
 pub returns-in_default : goal.returns-in_default
-returns-in_default c = other-command _ _ _ _ _ _ _ _ _ c.unmoved.result _ _ _ c.kind.ensures c.channel_of-channel.ensures.value _ _ _ _ c.in_default.in_default_own.rest.0.1 c.in_default.in_default_own.rest.1 c.run_command-u.ensures c.unmoved.ensures
+returns-in_default c = other-command _ _ _ _ _ _ _ _ _ c.unmoved.result _ _ _ c.kind.ensures c.channel_of-channel.ensures.value _ _ _ _ c.in_default.in_default-own.rest.0.1 c.in_default.in_default-own.rest.1 c.run_command-u.ensures c.unmoved.ensures

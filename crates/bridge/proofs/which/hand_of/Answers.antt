@@ -5,7 +5,7 @@ use borrow.Author.Rules.{rules}
 use Rattle.bridge.proofs.which.hand_of.Goals as goal
 
 pub returns-in_default : goal.returns-in_default
-returns-in_default c = (unheard c.args.what c.in_default.in_default_own.keys2).0
+returns-in_default c = (unheard c.args.what c.in_default.not-Midi).0
 
 pub returns-in-Fader : goal.returns-in-Fader
 returns-in-Fader c = hand-fader _ _ c.in-Midi.is _ _ c.in-Fader.is

@@ -3,4 +3,4 @@ use borrow.Author.Rules.{rules}
 use Rattle.bridge.proofs.which.is_nothing.Goals as goal
 
 pub returns-in_default : goal.returns-in_default
-returns-in_default c = (unheard c.args.what c.in_default.in_default_own.keys2).2
+returns-in_default c = (unheard c.args.what c.in_default.not-Midi).2

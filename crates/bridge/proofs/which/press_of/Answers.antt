@@ -3,10 +3,10 @@ use borrow.Author.Rules.{rules}
 use Rattle.bridge.proofs.which.press_of.Goals as goal
 
 pub returns-in_default : goal.returns-in_default
-returns-in_default c = (unheard c.args.what c.in_default.in_default_own.keys2).1
+returns-in_default c = (unheard c.args.what c.in_default.not-Midi).1
 
 pub returns-in_default-m : goal.returns-in_default-m
-returns-in_default-m c = no-press _ _ c.in-Midi.is c.in_default-m.in_default_m_own.keys2
+returns-in_default-m c = no-press _ _ c.in-Midi.is c.in_default-m.not-Button
 
 pub returns-then-b : goal.returns-then-b
 returns-then-b c = a-press _ _ c.in-Midi.is _ c.in-Button.is c.if-b.true

@@ -24,7 +24,7 @@ use Rattle.bounds.specs.Events.{act-takes, message_cost, call_cost}
 
 -- ── drivers that are not open ──
 
-shut-most : (l : List Bool) → shut l ≤ length l
+pub shut-most : (l : List Bool) → shut l ≤ length l
 unfolding shut
 shut-most [] = omega arith
 shut-most (true ∷ l) = omega (arith, shut-most l)
@@ -40,7 +40,7 @@ shut-opened (b ∷ l) (suc i) h e = omega (arith, shut-opened l i (omega arith) 
 
 -- ── the line ──
 
-going-so : going ≡ overrun → ⊥
+pub going-so : going ≡ overrun → ⊥
 going-so e = let z : ◌≡◌ {A = ℕ} 0 1 = cc in omega arith
 
 waits-so : {c : Call} → waits c ≡ overrun → ⊥
@@ -205,7 +205,7 @@ end-most true sent h = omega (arith, h refl)
 end-most false sent h = omega arith
 
 module _ (v : View) (k : Kept) (sound : Sound v) (within : Within k) where
-  messages-most : (e : Input) → message_cost e v k ≤ 102
+  pub messages-most : (e : Input) → message_cost e v k ≤ 102
   messages-most (input.Midi e) = omega arith
   messages-most input.Tick =
       omega (arith, within.line, end-most k.lamps.flash.on k.lamps.flash.sent within.flash)
@@ -214,45 +214,10 @@ module _ (v : View) (k : Kept) (sound : Sound v) (within : Within k) where
       omega (arith, merged-most v.globals.transports (v.here k.site.bank).transports, sound.globals, sound.own k.site.bank)
   messages-most input.FlashBank = omega arith
 
-  calls-most : (e : Input) → call_cost e v k ≤ 321
+  pub calls-most : (e : Input) → call_cost e v k ≤ 321
   calls-most (input.Midi e) = omega arith
   calls-most input.Tick = omega (arith, within.line, within.turns)
   calls-most input.PushState = omega arith
   calls-most input.PushTransport =
       omega (arith, merged-most v.globals.transports (v.here k.site.bank).transports, sound.globals, sound.own k.site.bank)
   calls-most input.FlashBank = omega arith
-
-  pub act-room : (e : Timed) (answers : List ℕ) → Room 0 0 (act e.what v k e.time (start answers k.opened)).talk
-  act-room e answers =
-      (act-takes room_rules v k sound.drivers within.drivers e.what e.time).pays 0 0 (start answers k.opened)
-      (record {
-        messages = omega (arith, messages-most e.what);
-        calls = omega (arith, calls-most e.what, shut-most k.opened, within.opened);
-        opened = within.opened;
-        never = λ q. going-so q;
-      })
-
-  -- no event ends for want of room
-  pub never-overrun : (e : Timed) (answers : List ℕ) → (act e.what v k e.time (start answers k.opened)).talk.stop ≡ overrun → ⊥
-  never-overrun e answers q = (act-room e answers).never q
-
-  finish-few : (s : Stop) (r : Got Left) → Room 0 0 r.talk → FewOf (finish s v k r).ended
-  finish-few going r h = (omega (arith, h.messages), omega (arith, h.calls))
-  finish-few (waits c) r h = tt
-  finish-few declined r h = tt
-  finish-few overrun r h = tt
-
-  step-few : (e : Timed) (answers : List ℕ) → FewOf (step v k e answers).ended
-  unfolding step
-  step-few e answers = at (eqb (refusal e.what v k e.time) 0)
-    where
-      at : (b : Bool) → FewOf (step_if b (refusal e.what v k e.time) e v k answers).ended
-      at true =
-          let r = act e.what v k e.time (start answers k.opened) in
-          finish-few r.talk.stop r (act-room e answers)
-      at false = tt
-
-  -- at most 102 messages and 337 calls
-  pub few-within : (e : Timed) (answers : List ℕ) (ms : List (List ℕ)) (cs : List Call) (used : ℕ) (saved : Bool) →
-      (step v k e answers).ended ≡ done ms cs used saved → (length ms ≤ 102) × (length cs ≤ 337)
-  few-within e answers ms cs used saved q = subst (λ (x : Ended). FewOf x) q (step-few e answers)

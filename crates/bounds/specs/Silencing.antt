@@ -87,8 +87,3 @@ press-silenced p note t o few =
     let same : length (targets_of s) ≡ length s = length-map s (λ e. e.target) in
     let short : length after ≤ length m = fits (λ e. e.target) after m w.once w.all in
     (omega arith, once-keys (λ e. e.target) after ∙ w.once)
-
-pub silenced-so : (v : View) (k : Kept) (now : Float) (note : ℕ) (t : Talk) → no_twice eqb (targets_of k.silenced) ≡ true →
-    length k.silenced + length (added_by note (press_at v k now)) ≤ 256 →
-    (length (button note (press_at v k now) t).value.silenced ≤ 256) × (no_twice eqb (targets_of (button note (press_at v k now) t).value.silenced) ≡ true)
-silenced-so v k now note t o few = press-silenced (press_at v k now) note t o few

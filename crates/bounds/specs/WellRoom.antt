@@ -20,7 +20,6 @@ use Rattle.bounds.specs.Drivers.{Each, no_more, one_more, MayTurn, MayStrip}
 use Rattle.bounds.specs.Room.{IsDriver, Within}
 use Rattle.bounds.specs.Well.{Wired, WiredTurn, Well}
 use Rattle.bounds.specs.Profiles.{accepted-sound}
-use Rattle.bounds.specs.RoomLaws.{never-overrun, few-within}
 use Rattle.bounds.specs.WellFlash.{shaped-playing}
 
 good-may : (l : List Strip) → all_of good_strip l ≡ true → Each (MayStrip IsDriver) l
@@ -54,13 +53,3 @@ module _ (p : List ℕ) (yes : verdict p ≡ 0) where
           opened = well.opened;
           flash = λ e. (shaped-playing k.lamps.flash well.flash e).begun;
         }
-
-    module _ (e : Timed) (answers : List ℕ) where
-      -- the line never stops for want of room
-      pub well-never-overrun : (act e.what (view_of p) k e.time (start answers k.opened)).talk.stop ≡ overrun → ⊥
-      well-never-overrun q = never-overrun (view_of p) k (accepted-sound p yes) well-within e answers q
-
-      -- a done event has at most 102 messages and 337 calls
-      pub well-few : (ms : List (List ℕ)) (cs : List Call) (used : ℕ) (saved : Bool) →
-          (step (view_of p) k e answers).ended ≡ done ms cs used saved → (length ms ≤ 102) × (length cs ≤ 337)
-      well-few ms cs used saved q = few-within (view_of p) k (accepted-sound p yes) well-within e answers ms cs used saved q

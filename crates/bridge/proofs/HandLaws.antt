@@ -57,7 +57,7 @@ use Rattle.after.specs.After.{kept_with, KeepsPlaces, with_turns}
 use Rattle.after.specs.After as after
 use Rattle.bounds.specs.Well.{Well}
 use Rattle.bounds.specs.Whole.{well-seen}
-use Rattle.bounds.specs.WellStep.{step-well}
+use Rattle.bounds.proofs.WellStep.{step-well}
 use Rattle.bridge.specs.Bridge.{IsCurrent, moved_at, turned_at, Moves, Turns as TurnsAs}
 use Rattle.bridge.proofs.StepLaws.{did, room-for, undone-delivers, done-delivers}
 use Rattle.bridge.proofs.Fit.{places, shaped-again}

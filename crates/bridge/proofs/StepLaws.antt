@@ -41,8 +41,8 @@ use Rattle.definition.specs.Step.{Kept, kept, Left, rig_now, tick, tick_with, ov
 use Rattle.definition.specs.Whole.{whole, offered}
 use Rattle.bounds.specs.Room.{LowInput, FewOf}
 use Rattle.bounds.specs.Well.{Well}
-use Rattle.bounds.specs.WellRoom.{well-few}
-use Rattle.bounds.specs.WellStep.{step-well}
+use Rattle.bounds.proofs.WellRoom.{well-few}
+use Rattle.bounds.proofs.WellStep.{step-well}
 use Rattle.after.specs.After.{kept_with, Places}
 use Rattle.delivery.specs.Delivery.{outcome_of, is_done, messages_after, calls_after, end_if, end_of, HasRoom}
 use Rattle.delivery.specs.declared.Outcome.{Outcome}

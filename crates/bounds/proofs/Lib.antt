@@ -1,0 +1,5 @@
+pub mod Silencing
+pub mod RoomLaws
+pub mod WellRoom
+pub mod WellStep
+pub mod Whole

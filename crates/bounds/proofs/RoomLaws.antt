@@ -1,0 +1,60 @@
+-- From a session within its capacities no event overruns its 102 messages or 337 calls.
+use Rattle.std.specs.Prelude.{ℕ, zero, suc, ◌+◌, ◌≤◌, ◌<◌, ◌≡◌, refl, Bool, List, [], ◌∷◌, eqb, leb, length, get_or, set}
+use Rattle.std.proofs.Common.{subst, ◌∙◌, true≢false, arith, length-append, length-set, leb-true}
+use Rattle.std.proofs.Math.Bool.{true, false}
+use Rattle.std.proofs.lemmas.Bool.{false≢true}
+use Rattle.base.specs.Choice.{pick}
+use Rattle.base.specs.Keyed.{change}
+use Rattle.protocol.specs.Protocol.{bytes_of}
+use Rattle.protocol.specs.declared.Out.{Out}
+use Rattle.lookup.specs.Lookup.{of_kind, merged, place}
+use Rattle.lookup.specs.View.{View}
+use Rattle.lookup.specs.declared.Entry.{Entry}
+use Rattle.drivers.specs.Answers.{answer_of, is_unfit, is_done}
+use Rattle.drivers.specs.Talk.{Stop, going, waits, declined, overrun, Talk, Got, next, start, ask, ask_at, ask_room, ask_left, ask_fit, plain_call, opening, is_open, open_for, open_if, opened_by, ask_if, use_call, send, send_at, send_room}
+use Rattle.drivers.specs.declared.Call.{Call}
+use Rattle.event.specs.declared.Input.{Input}
+use Rattle.event.specs.declared.Input.TheVariants as input
+use Rattle.event.specs.declared.Timed.{Timed}
+use Rattle.definition.specs.Step.{Kept, Left, Ended, done, finish, step_if, refusal, act, step}
+use Rattle.bounds.specs.Room.{IsDriver, shut, Sound, Within, Room, FewOf}
+use Rattle.bounds.specs.Spending.{Rules, Spent, spending}
+use Rattle.bounds.specs.Surface.{end_cost}
+use Rattle.bounds.specs.Events.{act-takes, message_cost, call_cost}
+use Rattle.bounds.specs.RoomLaws.{shut-most, going-so, room_rules, messages-most, calls-most}
+
+module _ (v : View) (k : Kept) (sound : Sound v) (within : Within k) where
+  pub act-room : (e : Timed) (answers : List ℕ) → Room 0 0 (act e.what v k e.time (start answers k.opened)).talk
+  act-room e answers =
+      (act-takes room_rules v k sound.drivers within.drivers e.what e.time).pays 0 0 (start answers k.opened)
+      (record {
+        messages = omega (arith, messages-most v k sound within e.what);
+        calls = omega (arith, calls-most v k sound within e.what, shut-most k.opened, within.opened);
+        opened = within.opened;
+        never = λ q. going-so q;
+      })
+
+  -- no event ends for want of room
+  pub never-overrun : (e : Timed) (answers : List ℕ) → (act e.what v k e.time (start answers k.opened)).talk.stop ≡ overrun → ⊥
+  never-overrun e answers q = (act-room e answers).never q
+
+  finish-few : (s : Stop) (r : Got Left) → Room 0 0 r.talk → FewOf (finish s v k r).ended
+  finish-few going r h = (omega (arith, h.messages), omega (arith, h.calls))
+  finish-few (waits c) r h = tt
+  finish-few declined r h = tt
+  finish-few overrun r h = tt
+
+  step-few : (e : Timed) (answers : List ℕ) → FewOf (step v k e answers).ended
+  unfolding step
+  step-few e answers = at (eqb (refusal e.what v k e.time) 0)
+    where
+      at : (b : Bool) → FewOf (step_if b (refusal e.what v k e.time) e v k answers).ended
+      at true =
+          let r = act e.what v k e.time (start answers k.opened) in
+          finish-few r.talk.stop r (act-room e answers)
+      at false = tt
+
+  -- at most 102 messages and 337 calls
+  pub few-within : (e : Timed) (answers : List ℕ) (ms : List (List ℕ)) (cs : List Call) (used : ℕ) (saved : Bool) →
+      (step v k e answers).ended ≡ done ms cs used saved → (length ms ≤ 102) × (length cs ≤ 337)
+  few-within e answers ms cs used saved q = subst (λ (x : Ended). FewOf x) q (step-few e answers)

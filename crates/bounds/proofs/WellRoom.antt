@@ -1,0 +1,37 @@
+-- In every well-shaped session over an accepted profile, no event ends for want of room: at most 102 messages and 337 calls.
+use Rattle.std.specs.Prelude.{ℕ, ◌≤◌, ◌≡◌, Bool, true, List, [], ◌∷◌, length}
+use Rattle.std.proofs.Common.{ap, arith, leb-true, eqb-true}
+use Rattle.base.specs.Keyed.{all_of}
+use Rattle.base.specs.Pigeon.{left-of, right_of}
+use Rattle.base.specs.RangeLaws.{every-at}
+use Rattle.profile.specs.Profile.{byte_at, verdict}
+use Rattle.profile.specs.Fields.{encoder-at}
+use Rattle.profile.specs.Accepted.{accepted}
+use Rattle.lookup.specs.View.{view_of}
+use Rattle.lookup.specs.declared.Destination.{Destination}
+use Rattle.drivers.specs.Talk.{overrun, start}
+use Rattle.drivers.specs.declared.Call.{Call}
+use Rattle.session.specs.Session.{Turn, good_strip}
+use Rattle.session.specs.SessionLaws.{line-fits}
+use Rattle.session.specs.declared.Strip.{Strip}
+use Rattle.event.specs.declared.Timed.{Timed}
+use Rattle.definition.specs.Step.{Kept, act, step, done}
+use Rattle.bounds.specs.Drivers.{Each, no_more, one_more, MayTurn, MayStrip}
+use Rattle.bounds.specs.Room.{IsDriver, Within}
+use Rattle.bounds.specs.Well.{Wired, WiredTurn, Well}
+use Rattle.bounds.specs.Profiles.{accepted-sound}
+use Rattle.bounds.specs.WellRoom.{well-within}
+use Rattle.bounds.proofs.RoomLaws.{never-overrun, few-within}
+use Rattle.bounds.specs.WellFlash.{shaped-playing}
+
+module _ (p : List ℕ) (yes : verdict p ≡ 0) where
+  module _ (k : Kept) (well : Well p k) where
+    module _ (e : Timed) (answers : List ℕ) where
+      -- the line never stops for want of room
+      pub well-never-overrun : (act e.what (view_of p) k e.time (start answers k.opened)).talk.stop ≡ overrun → ⊥
+      well-never-overrun q = never-overrun (view_of p) k (accepted-sound p yes) (well-within p yes k well) e answers q
+
+      -- a done event has at most 102 messages and 337 calls
+      pub well-few : (ms : List (List ℕ)) (cs : List Call) (used : ℕ) (saved : Bool) →
+          (step (view_of p) k e answers).ended ≡ done ms cs used saved → (length ms ≤ 102) × (length cs ≤ 337)
+      well-few ms cs used saved q = few-within (view_of p) k (accepted-sound p yes) (well-within p yes k well) e answers ms cs used saved q

@@ -1,0 +1,99 @@
+-- An event as the host offers it, in bytes: one that is done passed the numbers 1 to 10, and the laws of an event hold of it from the session's struct on.
+use Rattle.std.specs.Prelude.{ℕ, zero, suc, ◌≤◌, ◌<◌, ◌≡◌, Bool, ◌||◌, not, List, [], ◌∷◌, map, eqb, leb, ℤ, length, get_or, take}
+use Rattle.std.proofs.Math.Path.{refl}
+use Rattle.std.proofs.Common.{subst, arith, length-take, eqb-true, leb-true, ltb-true}
+use Rattle.std.proofs.Math.Bool.{true, false}
+use Rattle.std.proofs.Math.Option.{none}
+use Rattle.std.proofs.Math.Dec.{ltb}
+use Rattle.base.specs.Choice.{pick}
+use Rattle.base.specs.Range.{every}
+use Rattle.base.specs.RangeLaws.{and_left, and_right, every-at}
+use Rattle.base.specs.Keyed.{all_of, no_twice, beside}
+use Rattle.base.specs.Pigeon.{left-of, right_of}
+use Rattle.profile.specs.Profile.{records, is_kind, bank_count, verdict}
+use Rattle.lookup.specs.View.{view_of}
+use Rattle.drivers.specs.declared.Call.{Call}
+use Rattle.session.specs.Session.{turn_at, seen_line, is_encoder, hushed_at, seen_strips, strips_or, strips_if, good_strip, same_number}
+use Rattle.session.specs.SessionLaws.{WellLine, WellStrips, no-strips}
+use Rattle.session.specs.declared.Session.{Session}
+use Rattle.session.specs.declared.Line.{Line}
+use Rattle.session.specs.declared.Strips.{Strips}
+use Rattle.event.specs.Event.{read_of}
+use Rattle.event.specs.declared.Read.{Read}
+use Rattle.event.specs.declared.Read.TheVariants.{Known, Unknown}
+use Rattle.event.specs.declared.Timed.{Timed}
+use Rattle.definition.specs.Shape.{shaped_line, shaped_strips, shaped_turns, shaped_silenced, well_shaped}
+use Rattle.definition.specs.Step.{Kept, Ended, seen, done, refused, Stepped, stepped, step}
+use Rattle.definition.specs.Whole.{whole, offered}
+use Rattle.bounds.specs.Drivers.{Each, no_more, one_more}
+use Rattle.bounds.specs.Well.{WiredTurn, Well}
+use Rattle.bounds.proofs.WellRoom.{well-few}
+use Rattle.bounds.proofs.WellStep.{step-well}
+use Rattle.bounds.specs.Channels.{read_low}
+use Rattle.bounds.specs.Whole.{well-seen}
+
+-- ── an event that is done ──
+
+-- a refused event is not done
+not_done : (why : ℕ) {ms : List (List ℕ)} {cs : List Call} {used : ℕ} {saved : Bool} → refused why ≡ done ms cs used saved → ⊥
+not_done why q = let z : ◌≡◌ {A = ℕ} 0 1 = cc in omega arith
+
+module _ (p : List ℕ) (s : Session) (record_of answers : List ℕ) (messages calls : ℕ) where
+  -- it passed the numbers 1 to 10, and is the event that its record says
+  record Passed (x : Stepped) : Type 0 where
+    accepted : verdict p ≡ 0
+    shaped : well_shaped p s ≡ true
+    event : Timed
+    read : read_of record_of ≡ Known event
+    so : x ≡ step (view_of p) (seen p s) event answers
+
+  module _ (ms : List (List ℕ)) (cs : List Call) (used : ℕ) (saved : Bool) where
+    abbrev IsDone : Stepped → Type 0
+    IsDone x = x.ended ≡ done ms cs used saved
+
+    passed : IsDone (whole p s record_of answers messages calls) → Passed (whole p s record_of answers messages calls)
+    unfolding whole
+    passed q = verdict-at (eqb (verdict p) 0) refl q
+      where
+        k : Kept
+        k = seen p s
+
+        read_at : (r : Read) → read_of record_of ≡ r → verdict p ≡ 0 → well_shaped p s ≡ true → IsDone (offered r p k answers) → Passed (offered r p k answers)
+        read_at (Known e) i a w h = record { accepted = a; shaped = w; event = e; read = i; so = refl }
+        read_at Unknown i a w h = absurd (not_done 10 h)
+
+        room-at : (b : Bool) → verdict p ≡ 0 → well_shaped p s ≡ true → IsDone (pick b (stepped (refused 9) k) (offered (read_of record_of) p k answers)) →
+            Passed (pick b (stepped (refused 9) k) (offered (read_of record_of) p k answers))
+        room-at true a w h = absurd (not_done 9 h)
+        room-at false a w h = read_at (read_of record_of) refl a w h
+
+        shape_at : (b : Bool) → verdict p ≡ 0 → well_shaped p s ≡ b →
+            IsDone (pick b (pick (ltb messages 306 || ltb calls 5392) (stepped (refused 9) k) (offered (read_of record_of) p k answers)) (stepped (refused 8) k)) →
+            Passed (pick b (pick (ltb messages 306 || ltb calls 5392) (stepped (refused 9) k) (offered (read_of record_of) p k answers)) (stepped (refused 8) k))
+        shape_at true a w h = room-at (ltb messages 306 || ltb calls 5392) a w h
+        shape_at false a w h = absurd (not_done 8 h)
+
+        verdict-at : (b : Bool) → eqb (verdict p) 0 ≡ b →
+            IsDone
+            (pick b (pick (well_shaped p s) (pick (ltb messages 306 || ltb calls 5392) (stepped (refused 9) k) (offered (read_of record_of) p k answers)) (stepped (refused 8) k))
+            (stepped (refused (verdict p)) k)) →
+            Passed
+            (pick b (pick (well_shaped p s) (pick (ltb messages 306 || ltb calls 5392) (stepped (refused 9) k) (offered (read_of record_of) p k answers)) (stepped (refused 8) k))
+            (stepped (refused (verdict p)) k))
+        verdict-at true i h = shape_at (well_shaped p s) (eqb-true (verdict p) 0 i) refl h
+        verdict-at false i h = absurd (not_done (verdict p) h)
+
+    module _ (long : length s.opened ≡ 16) (q : IsDone (whole p s record_of answers messages calls)) where
+      -- at most 102 messages and 337 calls
+      pub whole-few : (length ms ≤ 102) × (length cs ≤ 337)
+      whole-few =
+          let h = passed q in
+          well-few p h.accepted (seen p s) (well-seen p s long h.shaped) h.event answers ms cs used saved
+          (subst (λ (x : Stepped). IsDone x) h.so q)
+
+      -- what it leaves is well shaped; the record is of bytes
+      pub whole-well : ((j : ℕ) → get_or record_of j 0 < 256) → Well p (whole p s record_of answers messages calls).kept
+      whole-well bytes =
+          let h = passed q in
+          rw h.so
+          (step-well p h.accepted (seen p s) (well-seen p s long h.shaped) h.event (read_low record_of bytes h.event h.read) answers)

@@ -1,26 +1,14 @@
 -- From a session within its capacities no event overruns its 102 messages or 337 calls.
-use Rattle.std.specs.Prelude.{ℕ, zero, suc, ◌+◌, ◌≤◌, ◌<◌, ◌≡◌, refl, Bool, List, [], ◌∷◌, eqb, leb, length, get_or, set}
-use Rattle.std.proofs.Common.{subst, ◌∙◌, true≢false, arith, length-append, length-set, leb-true}
+use Rattle.std.specs.Prelude.{ℕ, ◌≤◌, ◌≡◌, Bool, List, eqb, length}
+use Rattle.std.proofs.Common.{subst, arith}
 use Rattle.std.proofs.Math.Bool.{true, false}
-use Rattle.std.proofs.lemmas.Bool.{false≢true}
-use Rattle.base.specs.Choice.{pick}
-use Rattle.base.specs.Keyed.{change}
-use Rattle.protocol.specs.Protocol.{bytes_of}
-use Rattle.protocol.specs.declared.Out.{Out}
-use Rattle.lookup.specs.Lookup.{of_kind, merged, place}
 use Rattle.lookup.specs.View.{View}
-use Rattle.lookup.specs.declared.Entry.{Entry}
-use Rattle.drivers.specs.Answers.{answer_of, is_unfit, is_done}
-use Rattle.drivers.specs.Talk.{Stop, going, waits, declined, overrun, Talk, Got, next, start, ask, ask_at, ask_room, ask_left, ask_fit, plain_call, opening, is_open, open_for, open_if, opened_by, ask_if, use_call, send, send_at, send_room}
+use Rattle.drivers.specs.Talk.{Stop, going, waits, declined, overrun, Got, start}
 use Rattle.drivers.specs.declared.Call.{Call}
-use Rattle.event.specs.declared.Input.{Input}
-use Rattle.event.specs.declared.Input.TheVariants as input
 use Rattle.event.specs.declared.Timed.{Timed}
 use Rattle.definition.specs.Step.{Kept, Left, Ended, done, finish, step_if, refusal, act, step}
-use Rattle.bounds.specs.Room.{IsDriver, shut, Sound, Within, Room, FewOf}
-use Rattle.bounds.specs.Spending.{Rules, Spent, spending}
-use Rattle.bounds.specs.Surface.{end_cost}
-use Rattle.bounds.specs.Events.{act-takes, message_cost, call_cost}
+use Rattle.bounds.specs.Room.{Sound, Within, Room, FewOf}
+use Rattle.bounds.specs.Events.{act-takes}
 use Rattle.bounds.specs.RoomLaws.{shut-most, going-so, room_rules, messages-most, calls-most}
 
 module _ (v : View) (k : Kept) (sound : Sound v) (within : Within k) where

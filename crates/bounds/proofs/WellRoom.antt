@@ -1,28 +1,15 @@
 -- In every well-shaped session over an accepted profile, no event ends for want of room: at most 102 messages and 337 calls.
-use Rattle.std.specs.Prelude.{ℕ, ◌≤◌, ◌≡◌, Bool, true, List, [], ◌∷◌, length}
-use Rattle.std.proofs.Common.{ap, arith, leb-true, eqb-true}
-use Rattle.base.specs.Keyed.{all_of}
-use Rattle.base.specs.Pigeon.{left-of, right_of}
-use Rattle.base.specs.RangeLaws.{every-at}
-use Rattle.profile.specs.Profile.{byte_at, verdict}
-use Rattle.profile.specs.Fields.{encoder-at}
-use Rattle.profile.specs.Accepted.{accepted}
+use Rattle.std.specs.Prelude.{ℕ, ◌≤◌, ◌≡◌, Bool, List, length}
+use Rattle.profile.specs.Profile.{verdict}
 use Rattle.lookup.specs.View.{view_of}
-use Rattle.lookup.specs.declared.Destination.{Destination}
 use Rattle.drivers.specs.Talk.{overrun, start}
 use Rattle.drivers.specs.declared.Call.{Call}
-use Rattle.session.specs.Session.{Turn, good_strip}
-use Rattle.session.specs.SessionLaws.{line-fits}
-use Rattle.session.specs.declared.Strip.{Strip}
 use Rattle.event.specs.declared.Timed.{Timed}
 use Rattle.definition.specs.Step.{Kept, act, step, done}
-use Rattle.bounds.specs.Drivers.{Each, no_more, one_more, MayTurn, MayStrip}
-use Rattle.bounds.specs.Room.{IsDriver, Within}
-use Rattle.bounds.specs.Well.{Wired, WiredTurn, Well}
+use Rattle.bounds.specs.Well.{Well}
 use Rattle.bounds.specs.Profiles.{accepted-sound}
 use Rattle.bounds.specs.WellRoom.{well-within}
 use Rattle.bounds.proofs.RoomLaws.{never-overrun, few-within}
-use Rattle.bounds.specs.WellFlash.{shaped-playing}
 
 module _ (p : List ℕ) (yes : verdict p ≡ 0) where
   module _ (k : Kept) (well : Well p k) where

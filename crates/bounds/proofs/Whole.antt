@@ -1,32 +1,22 @@
 -- An event as the host offers it, in bytes: one that is done passed the numbers 1 to 10, and the laws of an event hold of it from the session's struct on.
-use Rattle.std.specs.Prelude.{ℕ, zero, suc, ◌≤◌, ◌<◌, ◌≡◌, Bool, ◌||◌, not, List, [], ◌∷◌, map, eqb, leb, ℤ, length, get_or, take}
+use Rattle.std.specs.Prelude.{ℕ, ◌≤◌, ◌<◌, ◌≡◌, Bool, ◌||◌, List, eqb, length, get_or}
 use Rattle.std.proofs.Math.Path.{refl}
-use Rattle.std.proofs.Common.{subst, arith, length-take, eqb-true, leb-true, ltb-true}
+use Rattle.std.proofs.Common.{subst, arith, eqb-true}
 use Rattle.std.proofs.Math.Bool.{true, false}
-use Rattle.std.proofs.Math.Option.{none}
 use Rattle.std.proofs.Math.Dec.{ltb}
 use Rattle.base.specs.Choice.{pick}
-use Rattle.base.specs.Range.{every}
-use Rattle.base.specs.RangeLaws.{and_left, and_right, every-at}
-use Rattle.base.specs.Keyed.{all_of, no_twice, beside}
-use Rattle.base.specs.Pigeon.{left-of, right_of}
-use Rattle.profile.specs.Profile.{records, is_kind, bank_count, verdict}
+use Rattle.profile.specs.Profile.{verdict}
 use Rattle.lookup.specs.View.{view_of}
 use Rattle.drivers.specs.declared.Call.{Call}
-use Rattle.session.specs.Session.{turn_at, seen_line, is_encoder, hushed_at, seen_strips, strips_or, strips_if, good_strip, same_number}
-use Rattle.session.specs.SessionLaws.{WellLine, WellStrips, no-strips}
 use Rattle.session.specs.declared.Session.{Session}
-use Rattle.session.specs.declared.Line.{Line}
-use Rattle.session.specs.declared.Strips.{Strips}
 use Rattle.event.specs.Event.{read_of}
 use Rattle.event.specs.declared.Read.{Read}
 use Rattle.event.specs.declared.Read.TheVariants.{Known, Unknown}
 use Rattle.event.specs.declared.Timed.{Timed}
-use Rattle.definition.specs.Shape.{shaped_line, shaped_strips, shaped_turns, shaped_silenced, well_shaped}
-use Rattle.definition.specs.Step.{Kept, Ended, seen, done, refused, Stepped, stepped, step}
+use Rattle.definition.specs.Shape.{well_shaped}
+use Rattle.definition.specs.Step.{Kept, seen, done, refused, Stepped, stepped, step}
 use Rattle.definition.specs.Whole.{whole, offered}
-use Rattle.bounds.specs.Drivers.{Each, no_more, one_more}
-use Rattle.bounds.specs.Well.{WiredTurn, Well}
+use Rattle.bounds.specs.Well.{Well}
 use Rattle.bounds.proofs.WellRoom.{well-few}
 use Rattle.bounds.proofs.WellStep.{step-well}
 use Rattle.bounds.specs.Channels.{read_low}

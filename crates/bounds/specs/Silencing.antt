@@ -1,5 +1,5 @@
 -- A press of which number 11 says that it fits leaves at most 256 silenced targets, none twice. Assumes nothing.
-use Rattle.std.specs.Prelude.{ℕ, ◌+◌, ◌≤◌, ◌≡◌, Bool, ◌||◌, length, Float}
+use Rattle.std.specs.Prelude.{ℕ, ◌+◌, ◌≤◌, ◌≡◌, Bool, ◌||◌, length}
 use Rattle.std.proofs.Common.{sym, ◌∙◌, arith, length-append}
 use Rattle.std.proofs.Math.Bool.{true, false}
 use mathlib.Core.List.{List, [], ◌++◌}
@@ -8,13 +8,11 @@ use Rattle.std.proofs.lemmas.List.{length-map}
 use Rattle.base.specs.Choice.{pick}
 use Rattle.base.specs.Keyed.{no_twice}
 use Rattle.protocol.specs.Protocol.{kind_of, channel_of}
-use Rattle.lookup.specs.View.{View}
 use Rattle.drivers.specs.Talk.{Talk, Act, next}
 use Rattle.session.specs.Session.{targets_of}
 use Rattle.session.specs.SessionLaws.{same_hushed}
 use Rattle.definition.specs.Muting.{added_by_solo, added_by_mute}
 use Rattle.definition.specs.Buttons.{Press, Pressed, page, walk, command, rec_loads, rec_as, rec, select_as, mute_as, solo_as, or_first, press_of, button, added_by}
-use Rattle.definition.specs.Step.{Kept, press_at}
 use Rattle.definition.specs.SilencingLaws.{fits, once-keys, Within, held, mute-so, solo-so}
 
 -- ── any press ──

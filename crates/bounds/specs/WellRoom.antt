@@ -1,5 +1,5 @@
--- In every well-shaped session over an accepted profile, no event ends for want of room: at most 102 messages and 337 calls.
-use Rattle.std.specs.Prelude.{ℕ, ◌≤◌, ◌≡◌, Bool, true, List, [], ◌∷◌, length}
+-- A well-shaped session over an accepted profile is within its capacities. That no event then ends for want of room is in proofs/WellRoom.
+use Rattle.std.specs.Prelude.{ℕ, ◌≡◌, true, List, [], ◌∷◌}
 use Rattle.std.proofs.Common.{ap, arith, leb-true, eqb-true}
 use Rattle.base.specs.Keyed.{all_of}
 use Rattle.base.specs.Pigeon.{left-of, right_of}
@@ -7,19 +7,14 @@ use Rattle.base.specs.RangeLaws.{every-at}
 use Rattle.profile.specs.Profile.{byte_at, verdict}
 use Rattle.profile.specs.Fields.{encoder-at}
 use Rattle.profile.specs.Accepted.{accepted}
-use Rattle.lookup.specs.View.{view_of}
 use Rattle.lookup.specs.declared.Destination.{Destination}
-use Rattle.drivers.specs.Talk.{overrun, start}
-use Rattle.drivers.specs.declared.Call.{Call}
 use Rattle.session.specs.Session.{Turn, good_strip}
 use Rattle.session.specs.SessionLaws.{line-fits}
 use Rattle.session.specs.declared.Strip.{Strip}
-use Rattle.event.specs.declared.Timed.{Timed}
-use Rattle.definition.specs.Step.{Kept, act, step, done}
+use Rattle.definition.specs.Step.{Kept}
 use Rattle.bounds.specs.Drivers.{Each, no_more, one_more, MayTurn, MayStrip}
 use Rattle.bounds.specs.Room.{IsDriver, Within}
 use Rattle.bounds.specs.Well.{Wired, WiredTurn, Well}
-use Rattle.bounds.specs.Profiles.{accepted-sound}
 use Rattle.bounds.specs.WellFlash.{shaped-playing}
 
 good-may : (l : List Strip) → all_of good_strip l ≡ true → Each (MayStrip IsDriver) l

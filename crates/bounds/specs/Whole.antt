@@ -1,7 +1,7 @@
--- An event as the host offers it, in bytes: one that is done passed the numbers 1 to 10, and the laws of an event hold of it from the session's struct on.
-use Rattle.std.specs.Prelude.{ℕ, zero, suc, ◌≤◌, ◌<◌, ◌≡◌, Bool, ◌||◌, not, List, [], ◌∷◌, map, eqb, leb, ℤ, length, get_or, take}
+-- What number 8 lets pass is well shaped as it is seen, and what is true of every refusal and every event is true of one that is offered. Of one that is done: proofs/Whole.
+use Rattle.std.specs.Prelude.{ℕ, zero, suc, ◌≤◌, ◌≡◌, Bool, ◌||◌, not, List, [], ◌∷◌, map, eqb, leb, ℤ, length, get_or, take}
 use Rattle.std.proofs.Math.Path.{refl}
-use Rattle.std.proofs.Common.{subst, arith, length-take, eqb-true, leb-true, ltb-true}
+use Rattle.std.proofs.Common.{arith, length-take, leb-true, ltb-true}
 use Rattle.std.proofs.Math.Bool.{true, false}
 use Rattle.std.proofs.Math.Option.{none}
 use Rattle.std.proofs.Math.Dec.{ltb}
@@ -12,7 +12,6 @@ use Rattle.base.specs.Keyed.{all_of, no_twice, beside}
 use Rattle.base.specs.Pigeon.{left-of, right_of}
 use Rattle.profile.specs.Profile.{records, is_kind, bank_count, verdict}
 use Rattle.lookup.specs.View.{view_of}
-use Rattle.drivers.specs.declared.Call.{Call}
 use Rattle.session.specs.Session.{turn_at, seen_line, is_encoder, hushed_at, seen_strips, strips_or, strips_if, good_strip, same_number}
 use Rattle.session.specs.SessionLaws.{WellLine, WellStrips, no-strips}
 use Rattle.session.specs.declared.Session.{Session}
@@ -23,11 +22,10 @@ use Rattle.event.specs.declared.Read.{Read}
 use Rattle.event.specs.declared.Read.TheVariants.{Known, Unknown}
 use Rattle.event.specs.declared.Timed.{Timed}
 use Rattle.definition.specs.Shape.{shaped_line, shaped_strips, shaped_turns, shaped_silenced, well_shaped}
-use Rattle.definition.specs.Step.{Kept, Ended, seen, done, refused, Stepped, stepped, step}
+use Rattle.definition.specs.Step.{Ended, seen, refused, Stepped, step}
 use Rattle.definition.specs.Whole.{whole, offered}
 use Rattle.bounds.specs.Drivers.{Each, no_more, one_more}
 use Rattle.bounds.specs.Well.{WiredTurn, Well}
-use Rattle.bounds.specs.Channels.{read_low}
 
 -- ── what number 8 lets pass is well shaped as it is seen ──
 

@@ -1,5 +1,4 @@
 -- `replay::all` meets its contract. Assumes nothing.
-use Rattle.std.proofs.Common.{rules}
 use Rattle.replay.proofs.all.Given as goal
 
 abbrev pub invariant-loop-turns : goal.invariant-loop-turns

@@ -1,6 +1,5 @@
 -- `replay::all_steps` meets its contract. Assumes nothing.
-use Rattle.std.proofs.Common.{◌≡◌, ◌-◌, ◌≤◌, true, rules}
-use Rattle.definition.specs.Shape.{well_shaped}
+use Rattle.std.proofs.Common.{rules}
 use Rattle.bridge.proofs.ShapedLaws.{fresh-shaped}
 use Rattle.replay.proofs.all_steps.Goals as goal
 

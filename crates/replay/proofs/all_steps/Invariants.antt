@@ -1,7 +1,6 @@
 -- `replay::all_steps` meets its contract. Assumes nothing.
-use Rattle.std.proofs.Common.{◌≡◌, ◌-◌, ◌≤◌, true, rules}
+use Rattle.std.proofs.Common.{◌≡◌, ◌-◌, ◌≤◌, true}
 use Rattle.definition.specs.Shape.{well_shaped}
-use Rattle.bridge.proofs.ShapedLaws.{fresh-shaped}
 use Rattle.replay.proofs.all_steps.Given as goal
 
 abbrev pub invariant-loop-n : goal.invariant-loop-n

@@ -1,5 +1,5 @@
 -- `replay::one_event` meets its contract. Assumes nothing.
-use Rattle.std.proofs.Common.{sym, length-take-le, rules}
+use Rattle.std.proofs.Common.{sym, length-take-le}
 use Rattle.bridge.specs.CountsLaws.{delivers-few}
 use Rattle.bridge.proofs.ShapedLaws.{stays-shaped}
 use Rattle.replay.proofs.one_event.Goals as goal

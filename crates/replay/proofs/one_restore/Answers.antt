@@ -1,5 +1,4 @@
 -- `replay::one_restore` meets its contract. Assumes nothing.
-use Rattle.std.proofs.Common.{rules}
 use Rattle.state.proofs.Restoring.{restoring-well}
 use Rattle.replay.proofs.one_restore.Goals as goal
 

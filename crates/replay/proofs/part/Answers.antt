@@ -1,5 +1,5 @@
 -- `replay::part` meets its contract. Assumes nothing.
-use Rattle.std.proofs.Common.{sym, length-take-le, rules}
+use Rattle.std.proofs.Common.{sym, length-take-le}
 use Rattle.base.specs.Tail.{counts-front}
 use Rattle.replay.proofs.part.Goals as goal
 

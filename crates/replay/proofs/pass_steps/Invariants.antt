@@ -1,5 +1,5 @@
 -- `replay::pass_steps` meets its contract. Assumes nothing.
-use Rattle.std.proofs.Common.{◌-◌, ◌≤◌, rules}
+use Rattle.std.proofs.Common.{◌-◌, ◌≤◌}
 use Rattle.replay.proofs.pass_steps.Given as goal
 
 abbrev pub invariant-loop-n : goal.invariant-loop-n

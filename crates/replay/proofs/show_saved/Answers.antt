@@ -1,5 +1,4 @@
 -- `replay::show_saved` meets its contract. Assumes nothing.
-use Rattle.std.proofs.Common.{rules}
 use Rattle.state.proofs.Laws.{saved-most}
 use Rattle.replay.proofs.show_saved.Goals as goal
 

@@ -1,7 +1,6 @@
 -- `run::all` meets its contract. Assumes nothing.
 use Prim.Native.Nat.{ℕ, ◌^◌, ◌+◌, ◌-◌, ◌≤◌, ◌<◌}
 use mathlib.Core.List.{List}
-use mathlib.Core.Path.{◌≡◌}
 use native.Mathlib.Omega.{arith}
 use lib.ListN.{length, take, drop, length-take, length-drop}
 use mir.Syntax.{w64}

@@ -1,12 +1,7 @@
 -- `run::all` meets its contract. Assumes nothing.
-use Prim.Native.Nat.{ℕ, ◌^◌, ◌+◌, ◌-◌, ◌≤◌, ◌<◌}
-use mathlib.Core.List.{List}
+use Prim.Native.Nat.{◌-◌, ◌≤◌}
 use mathlib.Core.Path.{◌≡◌}
-use native.Mathlib.Omega.{arith}
-use lib.ListN.{length, take, drop, length-take, length-drop}
-use mir.Syntax.{w64}
-use mir.Val.{Fits}
-use borrow.Author.Rules.{rules}
+use lib.ListN.{length}
 use Rattle.run.proofs.all.Given as goal
 
 abbrev pub invariant-loop-from : goal.invariant-loop-from

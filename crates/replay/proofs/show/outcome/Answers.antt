@@ -1,5 +1,5 @@
 -- `replay::show::outcome` meets its contract. Assumes nothing.
-use Rattle.std.proofs.Common.{subst, rules}
+use Rattle.std.proofs.Common.{subst}
 use Rattle.delivery.specs.declared.Outcome.{Outcome}
 use Rattle.bridge.specs.Bridge.{Few}
 use Rattle.replay.proofs.show.outcome.Goals as goal

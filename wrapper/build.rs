@@ -22,7 +22,7 @@ fn main() {
 fn demand(archive: &Path) {
     if !archive.is_file() {
         eprintln!("There is no {}.", archive.display());
-        eprintln!("Run `rt staticlib host` in the project's root, or set ZELWYDRO_LIB to the folder of libhost.a.");
+        eprintln!("Run `wrapper/archive`, or set ZELWYDRO_LIB to the folder of libhost.a.");
         std::process::exit(1);
     }
 }

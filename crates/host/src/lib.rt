@@ -1,7 +1,7 @@
 #![tactic(auto)]
 
 // The bridge for a program in C or Rust: the entry over a session that the program keeps, and what it needs beside it. An enum cannot cross, so that an outcome
-// is told in numbers. `wrapper/` has the header, and a safe layer in Rust.
+// is told in numbers. `host_c` exports these functions; `wrapper/` has the header, and a safe layer in Rust.
 ghost use Rattle.std.specs.Prelude.{◌≡◌, length};
 ghost use Rattle.profile.specs.Profile.{verdict};
 ghost use Rattle.session.specs.Session.{fresh_session};
@@ -85,8 +85,7 @@ fn numbers(o: Outcome) -> Report
 }
 
 // One event. A refused or waiting one leaves the session and all lent memory as they were.
-#[unsafe(no_mangle)]
-pub extern "C" fn zelwydro_on_event(
+pub fn zelwydro_on_event(
     session: &mut Session,
     profile: &[u8],
     event: &[u8],
@@ -104,32 +103,28 @@ pub extern "C" fn zelwydro_on_event(
 }
 
 // A session that has seen nothing.
-#[unsafe(no_mangle)]
-pub extern "C" fn zelwydro_fresh() -> Session
+pub fn zelwydro_fresh() -> Session
     ensures { result ≡ fresh_session }
 {
     session::fresh()
 }
 
 // Whether a profile can be used: 0, or the number from 1 to 6 that refuses it.
-#[unsafe(no_mangle)]
-pub extern "C" fn zelwydro_examine(profile: &[u8]) -> u8
+pub fn zelwydro_examine(profile: &[u8]) -> u8
     ensures { result ≡ verdict profile.now }
 {
     profile::examine(profile)
 }
 
 // Back to the device and the scenes that were saved.
-#[unsafe(no_mangle)]
-pub extern "C" fn zelwydro_restore(session: Session, profile: &[u8], saved: &[u8]) -> Restored
+pub fn zelwydro_restore(session: Session, profile: &[u8], saved: &[u8]) -> Restored
     ensures { result ≡ restoring profile.now saved.now session }
 {
     state::restore(session, profile, saved)
 }
 
 // What is to be saved after an event that says so.
-#[unsafe(no_mangle)]
-pub extern "C" fn zelwydro_save(session: Session, profile: &[u8], out: &mut [u8; 136]) -> Saved
+pub fn zelwydro_save(session: Session, profile: &[u8], out: &mut [u8; 136]) -> Saved
     ensures value { result ≡ saving profile.now session }
     ensures out_after { out.new ≡ saved_to profile.now session out.old }
 {

@@ -2,7 +2,6 @@ use native.Mathlib.Omega.{arith}
 use mathlib.Core.Path.{◌≡◌}
 use lib.ListN.{length}
 use Rattle.delivery.proofs.Laws.{ends-undone, ends-done}
-use borrow.Author.Rules.{rules}
 use Rattle.delivery.proofs.ending.Goals as goal
 
 pub returns-then-io-ne-GOING : goal.returns-then-io-ne-GOING

@@ -2,7 +2,6 @@ use native.Mathlib.Omega.{arith}
 use borrow.Author.Tests.{le-leb, lt-leb}
 use Rattle.definition.specs.Shape.{shaped_silenced}
 use Rattle.session.specs.SessionLaws.{targets-seen}
-use borrow.Author.Rules.{rules}
 use Rattle.shape.proofs.shaped_silenced.Goals as goal
 
 pub returns-then-n-gt256 : goal.returns-then-n-gt256

@@ -5,7 +5,6 @@ use native.Mathlib.Omega.{arith}
 use lib.ListN.{length, length-set}
 use Rattle.drivers.specs.Shown.{shown}
 use Rattle.transport.proofs.Laws.{placed, meet-known, meet-new}
-use borrow.Author.Rules.{rules}
 use Rattle.transport.proofs.meet.Goals as goal
 
 -- `transport::meet` meets its contract. Assumes nothing.

@@ -3,7 +3,6 @@ use Rattle.drivers.specs.AnswersLaws.{answer-there, part-long}
 use lib.ListN.{length-drop}
 use mathlib.Core.Path.{sym, ◌∙◌}
 use native.Mathlib.Omega.{arith}
-use borrow.Author.Rules.{rules}
 use Rattle.drivers.proofs.line.ask_in.Goals as goal
 
 pub returns-then-io-ne-GOING : goal.returns-then-io-ne-GOING

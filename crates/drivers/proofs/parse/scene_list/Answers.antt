@@ -1,6 +1,5 @@
 use Rattle.drivers.proofs.Laws.{list-many, list-short, list-good, list-bad}
 use Rattle.drivers.specs.Answers.{scene_list, item_fits}
-use borrow.Author.Rules.{rules}
 use Rattle.drivers.proofs.parse.scene_list.Goals as goal
 
 pub returns-then-count-gt128 : goal.returns-then-count-gt128

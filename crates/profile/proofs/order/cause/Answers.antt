@@ -1,6 +1,5 @@
 -- `profile::order::cause` meets its contract. Assumes nothing.
 use Rattle.profile.proofs.Ordered.{by_order, by-found, by-once, by-bank, by-neither}
-use borrow.Author.Rules.{rules}
 use Rattle.profile.proofs.order.cause.Goals as goal
 
 pub returns-then-found-eq0 : goal.returns-then-found-eq0

@@ -11,7 +11,6 @@ use Rattle.std.proofs.Math.ListN.{length, length-append, get_or-eq_default, get_
 use Rattle.std.proofs.lemmas.List.{get_or_at}
 use Rattle.base.specs.Choice.{pick}
 use Rattle.base.specs.Range.{count, bit}
-use Rattle.base.specs.RangeLaws.{bit_le, count_none, count-more}
 use Rattle.base.specs.First.{first, or_else}
 use Rattle.base.specs.Keyed.{find}
 use Rattle.base.specs.declared.Place.{Place}

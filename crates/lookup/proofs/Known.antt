@@ -1,21 +1,13 @@
 -- What is known of what an accepted profile's lookups find. Assumes nothing.
-use Rattle.std.specs.Prelude.{ℕ, ◌≤◌, ◌<◌, ◌≡◌, refl, List, ◌⊎◌}
-use Rattle.std.proofs.Common.{inr, arith}
-use borrow.Author.Tests.{le-ltb, eqb-true}
-use Rattle.base.specs.RangeLaws.{and_left, every-at}
-use Rattle.base.specs.First.{first}
-use Rattle.base.specs.FirstLaws.{until-behind}
-use Rattle.base.specs.declared.Place.{Place}
-use Rattle.base.specs.declared.Place.TheVariants.{At, Nothing}
+use Rattle.std.specs.Prelude.{ℕ, ◌≡◌, List}
+use borrow.Author.Tests.{eqb-true}
+use Rattle.base.specs.RangeLaws.{and_left}
 use Rattle.profile.specs.Profile.{records, byte_at, half_at, verdict}
-use Rattle.profile.specs.Fields.{bank-at}
-use Rattle.profile.specs.Accepted.{accepted, kinds-rise}
 use Rattle.lookup.specs.Gather.{gather}
 use Rattle.lookup.specs.Known.{in_reach}
 use Rattle.lookup.proofs.GatherLaws.{gather-short}
-use Rattle.lookup.specs.Lookup.{is_past, reach, entry, of_part, scenes_of, entry_at, transports_of, half_of, device_of, is_entry}
-use Rattle.lookup.specs.FirstMore.{first_short}
-use Rattle.lookup.specs.LookupLaws.{reach-le, entry-is}
+use Rattle.lookup.specs.Lookup.{reach, of_part, scenes_of, entry_at, transports_of}
+use Rattle.lookup.specs.LookupLaws.{reach-le}
 
 module _ (s : List ℕ) (ok : verdict s ≡ 0) where
   -- a bank's scenes are all that the file has

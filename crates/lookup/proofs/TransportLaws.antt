@@ -1,11 +1,7 @@
 -- The list of transport buttons: the first of a kind, and the loops that make and merge it. Assumes nothing.
-use Rattle.std.specs.Prelude.{ℕ, ◌+◌, ◌≤◌, ◌<◌, ◌≡◌, refl, List, [], ◌∷◌, ◌++◌, map, Bool, true, false, ◌&&◌}
-use Rattle.std.proofs.Common.{sym, ap, ◌∙◌, arith}
-use Rattle.std.proofs.lemmas.List.{map-append}
-use Rattle.base.specs.Range.{count, every}
-use Rattle.profile.specs.RangeMore.{count-mono}
-use Rattle.profile.specs.Profile.{records, count_of, verdict}
-use Rattle.profile.specs.Accepted.{few-transports}
+use Rattle.std.specs.Prelude.{ℕ, ◌+◌, ◌≡◌, refl, List, [], ◌∷◌, ◌++◌, Bool, true, false, ◌&&◌}
+use Rattle.std.proofs.Common.{sym, ap, ◌∙◌}
+use Rattle.base.specs.Range.{every}
 use Rattle.lookup.specs.declared.Entry.{Entry}
 use Rattle.lookup.specs.Gather.{gather}
 use Rattle.lookup.specs.GatherLaws.{from}

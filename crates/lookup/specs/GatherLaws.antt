@@ -1,24 +1,16 @@
 -- What a loop that counts up shows of `gather`. Assumes nothing.
-use Prim.Native.Nat.{ℕ, zero, suc, ◌+◌, ◌≤◌, ◌<◌}
-use Rattle.std.specs.Prelude.{◌≡◌, Bool, ◌&&◌, cond, get_or}
-use Rattle.std.proofs.Math.Path.{refl, sym, ap}
-use Rattle.std.proofs.Common.{◌∙◌, le_antisymm, eq-or-lt_of_le, le_of_suc-le-suc, add-zero, add-one, arith}
+use Prim.Native.Nat.{ℕ, ◌+◌, ◌≤◌}
+use Rattle.std.specs.Prelude.{◌≡◌, Bool}
+use Rattle.std.proofs.Math.Path.{refl, sym}
+use Rattle.std.proofs.Common.{add-zero, arith}
 use Rattle.std.proofs.Math.Bool.{true, false}
-use mathlib.Core.List.{List, [], ◌∷◌, ◌++◌, append-nil}
-use Rattle.std.proofs.Math.Logic.{⊎_elim}
+use mathlib.Core.List.{[]}
 use Rattle.std.proofs.Math.Option.{Option, none, some}
-use Rattle.std.proofs.Math.ListN.{length, length-append, get_or-eq_default, get_or-append}
-use Rattle.std.proofs.lemmas.List.{get_or_at}
-use Rattle.base.specs.Choice.{pick}
 use Rattle.base.specs.Range.{count, bit}
 use Rattle.base.specs.RangeLaws.{bit_le, count_none, count-more}
-use Rattle.base.specs.First.{first, or_else}
-use Rattle.base.specs.Keyed.{find}
 use Rattle.base.specs.declared.Place.{Place}
 use Rattle.base.specs.declared.Place.TheVariants.{At, Nothing}
-use Rattle.profile.specs.RangeMore.{count-lt}
 use Rattle.lookup.specs.Gather.{gather}
-use Rattle.lookup.specs.FirstMore.{not_behind}
 
 -- what is found in such a list, by the number that it came from
 abbrev pub from : {A : Type 0} → (ℕ → A) → Place → Option A

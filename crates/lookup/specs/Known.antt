@@ -2,16 +2,15 @@
 use Rattle.std.specs.Prelude.{ℕ, ◌≤◌, ◌<◌, ◌≡◌, refl, List, ◌⊎◌}
 use Rattle.std.proofs.Common.{inr, arith}
 use borrow.Author.Tests.{le-ltb, eqb-true}
-use Rattle.base.specs.RangeLaws.{and_left, every-at}
+use Rattle.base.specs.RangeLaws.{every-at}
 use Rattle.base.specs.First.{first}
 use Rattle.base.specs.FirstLaws.{until-behind}
 use Rattle.base.specs.declared.Place.{Place}
 use Rattle.base.specs.declared.Place.TheVariants.{At, Nothing}
-use Rattle.profile.specs.Profile.{records, byte_at, half_at, verdict}
+use Rattle.profile.specs.Profile.{records, byte_at, verdict}
 use Rattle.profile.specs.Fields.{bank-at}
 use Rattle.profile.specs.Accepted.{accepted, kinds-rise}
-use Rattle.lookup.specs.Gather.{gather}
-use Rattle.lookup.specs.Lookup.{is_past, reach, entry, of_part, scenes_of, entry_at, transports_of, half_of, device_of, is_entry}
+use Rattle.lookup.specs.Lookup.{is_past, reach, entry, half_of, device_of, is_entry}
 use Rattle.lookup.specs.FirstMore.{first_short}
 use Rattle.lookup.specs.LookupLaws.{reach-le, entry-is}
 

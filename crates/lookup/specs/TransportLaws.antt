@@ -1,16 +1,15 @@
 -- The list of transport buttons: the first of a kind, and the loops that make and merge it. Assumes nothing.
-use Rattle.std.specs.Prelude.{ℕ, ◌+◌, ◌≤◌, ◌<◌, ◌≡◌, refl, List, [], ◌∷◌, ◌++◌, map, Bool, true, false, ◌&&◌}
-use Rattle.std.proofs.Common.{sym, ap, ◌∙◌, arith}
+use Rattle.std.specs.Prelude.{ℕ, ◌≤◌, ◌<◌, ◌≡◌, List, [], ◌∷◌, ◌++◌, map}
+use Rattle.std.proofs.Common.{◌∙◌, arith}
 use Rattle.std.proofs.lemmas.List.{map-append}
-use Rattle.base.specs.Range.{count, every}
+use Rattle.base.specs.Range.{count}
 use Rattle.profile.specs.RangeMore.{count-mono}
 use Rattle.profile.specs.Profile.{records, count_of, verdict}
 use Rattle.profile.specs.Accepted.{few-transports}
 use Rattle.lookup.specs.declared.Entry.{Entry}
 use Rattle.lookup.specs.Gather.{gather}
 use Rattle.lookup.specs.GatherLaws.{gather_none}
-use Rattle.lookup.specs.FirstMore.{first_cong}
-use Rattle.lookup.specs.Lookup.{is_entry, reach, entry, of_part, entry_at, transports_of, of_kind, bound_by, transport_of, place, merged}
+use Rattle.lookup.specs.Lookup.{reach, of_part, entry_at, transports_of, merged}
 
 -- one more record's number behind those in an array
 pub seen-one-more : (s ks rs : List ℕ) (k : ℕ) → rs ≡ ks ++ (k ∷ []) → map (entry_at s) rs ≡ map (entry_at s) ks ++ (entry_at s k ∷ [])

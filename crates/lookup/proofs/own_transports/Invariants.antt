@@ -14,7 +14,8 @@ use Rattle.lookup.specs.Gather.{gather}
 use Rattle.lookup.specs.GatherLaws.{gather_none, walked-no, walked-yes}
 use Rattle.lookup.specs.Lookup.{is_past, of_part, entry_at, seen_entries}
 use Rattle.lookup.specs.LookupLaws.{reach_here, reach-end}
-use Rattle.lookup.specs.TransportLaws.{seen-one-more, own-yes, own-no, own-done, own-few}
+use Rattle.lookup.specs.TransportLaws.{seen-one-more, own-done, own-few}
+use Rattle.lookup.proofs.TransportLaws.{own-yes, own-no}
 use Rattle.lookup.proofs.own_transports.Given as goal
 
 abbrev pub invariant-loop-k : goal.invariant-loop-k

@@ -9,7 +9,7 @@ use Rattle.base.specs.declared.Place.TheVariants.{Nothing}
 use Rattle.lookup.specs.GatherLaws.{Walked, walked_none, walked_on}
 use Rattle.lookup.specs.Lookup.{is_past, of_part}
 use Rattle.lookup.specs.LookupLaws.{reach_here, reach-end}
-use Rattle.lookup.specs.SceneLaws.{scenes-counted}
+use Rattle.lookup.proofs.SceneLaws.{scenes-counted}
 use Rattle.lookup.proofs.scene_count.Given as goal
 
 abbrev pub invariant-loop-k : goal.invariant-loop-k

@@ -9,7 +9,7 @@ use Rattle.base.specs.declared.Place.TheVariants.{Nothing}
 use Rattle.lookup.specs.GatherLaws.{Walked, walked_none, walked-no, walked-yes}
 use Rattle.lookup.specs.Lookup.{is_past, of_part}
 use Rattle.lookup.specs.LookupLaws.{reach_here, reach-end, reach-on}
-use Rattle.lookup.specs.SceneLaws.{name-hit, name_done}
+use Rattle.lookup.proofs.SceneLaws.{name-hit, name_done}
 use Rattle.lookup.proofs.scene_name.Goals as goal
 
 pub loop-k-init : goal.loop-k-init

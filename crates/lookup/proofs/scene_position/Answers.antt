@@ -11,7 +11,7 @@ use Rattle.base.specs.declared.Place.TheVariants.{Nothing}
 use Rattle.lookup.specs.GatherLaws.{Walked, walked_none, walked-no, walked-yes}
 use Rattle.lookup.specs.Lookup.{is_past, of_part, scenes_of}
 use Rattle.lookup.specs.LookupLaws.{reach_here, reach-end, reach-on}
-use Rattle.lookup.specs.SceneLaws.{position-hit, position-more, position-done}
+use Rattle.lookup.proofs.SceneLaws.{position-hit, position-more, position-done}
 use Rattle.lookup.proofs.scene_position.Goals as goal
 
 pub loop-k-init : goal.loop-k-init

@@ -13,7 +13,8 @@ use Rattle.profile.specs.RangeMore.{count-mono, count-lt}
 use Rattle.lookup.specs.Gather.{gather}
 use Rattle.lookup.specs.Lookup.{is_past, of_part, entry_at, transports_of, merged, seen_entries}
 use Rattle.lookup.specs.LookupLaws.{reach_here, reach-end}
-use Rattle.lookup.specs.TransportLaws.{own-few, merged-none, merged-yes, merged-no, merged-done}
+use Rattle.lookup.specs.TransportLaws.{own-few, merged-none, merged-done}
+use Rattle.lookup.proofs.TransportLaws.{merged-yes, merged-no}
 use Rattle.lookup.proofs.transports.Given as goal
 
 abbrev pub invariant-loop-k : goal.invariant-loop-k

@@ -51,10 +51,13 @@ push_bound-m-requires c = let p = c.players in
     let xs = o.known in
     let n = o.there in
     let h : n < 32 = omega (arith, o.invariant.1, f.ensures.0) in
-    let l : n ≤ length xs = omega (arith, o.invariant.2) in record { count_bound = h; k_value = elim c.players-test.branch [
-          else-players-test w ↦ no-match player_of (is_player d) xs p.k n (omega arith) (omega (arith, w.players-test.false)) p.invariant.1
-          | then-players-test+then-is_player w ↦ match player_of (is_player d) xs p.k n (omega (arith, w.players-test.true)) l p.invariant.1 (sym w.is_player.ensures ∙ w.if-is_player.true)
-          ] }
+    let l : n ≤ length xs = omega (arith, o.invariant.2) in record {
+      count_bound = h;
+      k_value = elim c.players-test.branch [
+        | else-players-test w ↦ no-match player_of (is_player d) xs p.k n (omega arith) (omega (arith, w.players-test.false)) p.invariant.1
+        | then-players-test+then-is_player w ↦ match player_of (is_player d) xs p.k n (omega (arith, w.players-test.true)) l p.invariant.1 (sym w.is_player.ensures ∙ w.if-is_player.true)
+      ];
+    }
 
 pub loop-i-preserved : goal.loop-i-preserved
 loop-i-preserved c = let m = c.push_bound-m in

@@ -9,7 +9,8 @@ use Rattle.profile.specs.Accepted.{few-records}
 use Rattle.lookup.specs.GatherLaws.{gather_none, walked-no, walked-yes}
 use Rattle.lookup.specs.Lookup.{of_part}
 use Rattle.lookup.specs.LookupLaws.{reach_here, reach-end}
-use Rattle.lookup.specs.TransportLaws.{seen-one-more, own-yes, own-no, own-done, own-few}
+use Rattle.lookup.specs.TransportLaws.{seen-one-more, own-done, own-few}
+use Rattle.lookup.proofs.TransportLaws.{own-yes, own-no}
 use Rattle.lookup.proofs.own_transports.Goals as goal
 
 pub loop-k-init : goal.loop-k-init

@@ -5,7 +5,7 @@ use borrow.Author.Rules.{rules}
 use Rattle.base.specs.FirstLaws.{first-none, first_more}
 use Rattle.lookup.specs.GatherLaws.{walked_none, walked_on}
 use Rattle.lookup.specs.LookupLaws.{reach_here, reach-end}
-use Rattle.lookup.specs.SceneLaws.{scenes-counted}
+use Rattle.lookup.proofs.SceneLaws.{scenes-counted}
 use Rattle.lookup.proofs.scene_count.Goals as goal
 
 pub loop-k-init : goal.loop-k-init

@@ -5,7 +5,7 @@ use borrow.Author.Rules.{rules}
 use Rattle.base.specs.FirstLaws.{first-none, first_more}
 use Rattle.lookup.specs.GatherLaws.{walked_none, walked-no, walked-yes}
 use Rattle.lookup.specs.LookupLaws.{reach_here, reach-end, reach-on}
-use Rattle.lookup.specs.SceneLaws.{position-hit, position-more, position-done}
+use Rattle.lookup.proofs.SceneLaws.{position-hit, position-more, position-done}
 use Rattle.lookup.proofs.scene_position.Goals as goal
 
 pub loop-k-init : goal.loop-k-init

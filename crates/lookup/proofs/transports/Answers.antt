@@ -8,7 +8,8 @@ use Rattle.profile.specs.Accepted.{few-records}
 use Rattle.profile.specs.RangeMore.{count-mono, count-lt}
 use Rattle.lookup.specs.Lookup.{of_part}
 use Rattle.lookup.specs.LookupLaws.{reach_here, reach-end}
-use Rattle.lookup.specs.TransportLaws.{own-few, merged-none, merged-yes, merged-no, merged-done}
+use Rattle.lookup.specs.TransportLaws.{own-few, merged-none, merged-done}
+use Rattle.lookup.proofs.TransportLaws.{merged-yes, merged-no}
 use Rattle.lookup.proofs.transports.Goals as goal
 
 pub loop-k-init : goal.loop-k-init

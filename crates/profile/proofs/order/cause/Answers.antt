@@ -11,8 +11,8 @@ once_each-requires c = (c.requires, by-found _ _ c.ordered-found.ensures c.if-fo
 pub returns-then-not-once_each : goal.returns-then-not-once_each
 returns-then-not-once_each c = search by-once
 
-pub returns-then-found-eq1 : goal.returns-then-found-eq1
-returns-then-found-eq1 c = search by-bank
+pub returns-then-bankless : goal.returns-then-bankless
+returns-then-bankless c = search by-bank
 
 pub returns : goal.returns
 returns c = search by-neither

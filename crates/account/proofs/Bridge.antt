@@ -38,7 +38,7 @@ use Rattle.definition.specs.Levels.{read, write}
 use Rattle.definition.specs.Faders.{Desk, desk, is_held, hold_move, take_move, moved_if, fader_if, fader_to, fader, turn_to, encoder, is_zero, nudge_from, nudge_if, apply_nudge, nudges, align_if, write_move, writes, drain, drained}
 use Rattle.definition.specs.Live.{Refreshed, same_as, change_if, ask_if, refresh_live, refresh_due, is_due}
 use Rattle.definition.specs.Buttons.{button}
-use Rattle.definition.specs.Step.{Site, site, Kept, kept, Left, left, unmarked, press_at, on_button, on_midi, unmarked_at, lives_after, site_after, tick_with, tick, act}
+use Rattle.definition.specs.Step.{Site, Kept, kept, Left, unmarked, press_at, on_button, on_midi, unmarked_at, lives_after, site_after, tick_with, tick, act}
 use Rattle.account.specs.Account.{opens, Account, Waits, Drain, Drained, Each, no_more, one_more, reading, rig_in, lined, book_if, book_move, summed, book_turn, book_press, selects, same_live, live_at, book_live, book_drain, book_event, tried_of, try_at, drain_of, reading_of, read_as, writing, Uses, used, opened-used, not-used, Tries, tried-all, tried-one, Nudges, nudged-all, zero-sum, not-read, nudged, Only, no_call, one-call, not_write, in_session, tick_in, moved_in}
 use Rattle.account.proofs.Grown.{Grown, Goes, same, weaken, join, send-ok, use-ok}
 use Rattle.account.proofs.Frame.{only-append, makes-push, makes-flash_bank, makes-tick_flash, makes-refresh, makes-transport}

@@ -29,7 +29,7 @@ use Rattle.session.specs.declared.Lamps.{Lamps}
 use Rattle.session.specs.declared.Moves.{Moves}
 use Rattle.definition.specs.Rig.{Rig, Here, destination, device, bank_driver}
 use Rattle.definition.specs.Levels.{write, has_mute, kept_by}
-use Rattle.definition.specs.Muting.{hand_back, keep_level, zeroed, mute_level, mute_if, mute_to, mute, toggle_if, set_mute, peer, back_if, off_if, off_to, solo_off, note_mutes, note_if, silence_if, on_level, on_if, on_to, solo_on, soloed, solo_if, solo_with, solo}
+use Rattle.definition.specs.Muting.{hand_back, keep_level, zeroed, mute_level, mute_if, mute_to, mute, toggle_if, set_mute, peer, back_if, off_if, off_to, solo_off, note_mutes, note_if, silence_if, on_level, on_if, on_to, solo_on, solo_if, solo_with, solo}
 use Rattle.definition.specs.Scenes.{Paged, paged, Loaded, Started, names_on, names_if, scene_names, on_list, on_device_if, scene_on_device, load_if, load_on, loaded_if, load_at_if, load_scene_at, start_if, start, shown_if, page_if, step_scene_if, step_scene, scene_if, scene, is_at, next_scene}
 use Rattle.definition.specs.Banks.{select_if, select_bank, next_bank, step_if, step_bank}
 use Rattle.definition.specs.Buttons.{Press, Pressed, pressed, of_bank, offered_if, default_of, default_button, run_bound, run_else, run_command, rec_if, rec_loads, bank_of, page, walk, command, rec_as, rec, select_as, mute_as, solo_as, or_first, press_of, button}

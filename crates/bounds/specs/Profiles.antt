@@ -15,10 +15,10 @@ use Rattle.profile.specs.RangeMore.{count-reach}
 use Rattle.profile.specs.Fields.{fader-at, bank-at, transport-at}
 use Rattle.profile.specs.Accepted.{accepted}
 use Rattle.lookup.specs.Gather.{gather}
-use Rattle.lookup.specs.GatherLaws.{gather-length}
+use Rattle.lookup.proofs.GatherLaws.{gather-length}
 use Rattle.lookup.specs.Lookup.{entry, of_part, half_of, control_of, found_at, entry_at, transports_of}
 use Rattle.lookup.specs.LookupLaws.{entry-is}
-use Rattle.lookup.specs.Known.{transports-whole}
+use Rattle.lookup.proofs.Known.{transports-whole}
 use Rattle.lookup.specs.TransportLaws.{own-few}
 use Rattle.lookup.specs.View.{view_of}
 use Rattle.lookup.specs.declared.Entry.{Entry}

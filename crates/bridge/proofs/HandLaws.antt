@@ -17,7 +17,7 @@ use borrow.Author.Tests.{leb-true, leb-false, ltb-true, lt-ltb, ne_eqb}
 use Rattle.base.specs.Choice.{pick}
 use Rattle.base.specs.Range.{every}
 use Rattle.base.specs.RangeLaws.{and_left, every-at}
-use Rattle.base.specs.Keyed.{at, find, any_of, all_of, no_twice}
+use Rattle.base.specs.Keyed.{find, any_of, all_of, no_twice}
 use Rattle.base.specs.KeyedLaws as keyed
 use Rattle.base.specs.BesideLaws as side
 use Rattle.base.specs.Pigeon.{left-of, right_of}

@@ -13,7 +13,6 @@ use Rattle.base.specs.Choice.{pick}
 use Rattle.base.specs.RangeLaws.{or-left-no, or-right-no}
 use Rattle.base.specs.Keyed.{beside}
 use Rattle.base.specs.Tail.{at_front}
-use Rattle.protocol.specs.declared.Button.{Button}
 use Rattle.protocol.specs.declared.Event.TheVariants as event
 use Rattle.profile.specs.Profile.{verdict}
 use Rattle.lookup.specs.View.{View, view_of}

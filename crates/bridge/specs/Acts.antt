@@ -9,7 +9,7 @@ use Rattle.session.specs.declared.Lamps.{Lamps}
 use Rattle.event.specs.declared.Input.{Input}
 use Rattle.event.specs.declared.Input.TheVariants as input
 use Rattle.definition.specs.Live.{is_due, refresh_due}
-use Rattle.definition.specs.Step.{Kept, Left, site, rig_at, rig_now, flash_tick, on_button, on_midi, act}
+use Rattle.definition.specs.Step.{Kept, Left, rig_at, rig_now, flash_tick, on_button, on_midi, act}
 use Rattle.rig.specs.Seen.{rig_in}
 use Rattle.rig.specs.declared.Current.{Current}
 use Rattle.surface.specs.Home.{IsHome}

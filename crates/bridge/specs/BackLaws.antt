@@ -6,7 +6,7 @@ use Rattle.lookup.specs.View.{view_of}
 use Rattle.drivers.specs.Shown.{calls_in, messages_in}
 use Rattle.drivers.specs.Bytes.{joined, encode}
 use Rattle.session.specs.declared.Session.{Session}
-use Rattle.definition.specs.Step.{Ended, done, refused, waiting, Stepped, seen}
+use Rattle.definition.specs.Step.{Ended, done, refused, waiting, seen}
 use Rattle.definition.specs.Whole.{whole}
 use Rattle.bounds.specs.Whole.{whole-so}
 use Rattle.bounds.specs.ReadBack.{ThreeOf, step-three, messages-back, calls_back}

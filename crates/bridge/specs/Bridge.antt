@@ -16,7 +16,7 @@ use Rattle.definition.specs.Rig.{Rig}
 use Rattle.definition.specs.Faders.{nudges, writes}
 use Rattle.definition.specs.Live.{is_due}
 use Rattle.definition.specs.Shape.{well_shaped}
-use Rattle.definition.specs.Step.{Left, done, Stepped, seen, act, step}
+use Rattle.definition.specs.Step.{Left, Stepped, seen, act, step}
 use Rattle.bounds.specs.Room.{FewOf}
 use Rattle.rig.specs.declared.Current.{Current}
 use Rattle.after.specs.After.{left_of}

@@ -4,7 +4,6 @@ use Rattle.std.proofs.Math.Option.{none, some}
 use Rattle.base.specs.Choice.{pick}
 use Rattle.protocol.specs.declared.Event.{Event}
 use Rattle.protocol.specs.declared.Event.TheVariants as event
-use Rattle.protocol.specs.declared.Button.{Button}
 use Rattle.lookup.specs.View.{View}
 use Rattle.drivers.specs.Talk.{Stop, going, waits, declined, overrun, Got, Act, got, next, start}
 use Rattle.drivers.specs.declared.Call.{Call}

@@ -77,7 +77,8 @@ pub fn ending(
     ensures { Ends io cs.now ms.now saved result messages.old calls.old messages.new calls.new }
 {
     let opened = io.opened;
-    if io.stop != drivers::GOING {
+    let stopped = io.stop != drivers::GOING;
+    if stopped {
         let o = undone(io);
         return End {
             outcome: o,

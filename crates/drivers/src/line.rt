@@ -113,7 +113,8 @@ fn ask_in(answers: &[u8], calls: &mut [u8], io: Io, c: Call) -> Got
         };
     }
     let n = io.asked;
-    if 337 <= n {
+    let full = 337 <= n;
+    if full {
         return halt(io, c, OVERRUN);
     }
     let at = io.read;

@@ -62,7 +62,8 @@ fn scene_list(part: &[u8]) -> Answer
     ensures { result ≡ scene_list part.now }
 {
     let count = base::read_u16(part, 2) as usize;
-    if 128 < count {
+    let many = 128 < count;
+    if many {
         return Answer::Unfit;
     }
     // all the items are there

@@ -1,4 +1,4 @@
--- The f64 operations of the bridge, as functions on the values of lib.Ieee: the Rust's operations one by one, each rounded once.
+-- The f64 operations of the bridge, as functions on the values of Rattle.std.specs.Float.Ieee: the Rust's operations one by one, each rounded once.
 -- A constant is written by its bit pattern, with its decimal beside it. Definitions only.
 use Rattle.std.specs.Prelude.{◌≡◌, ℕ, suc, ◌+◌, ◌*◌, ◌/◌, ◌%◌, ◌^◌, ◌<◌, min, Bool, false, cond, ◌&&◌, ℤ, pos, negsuc, ◌==◌, from_bits, Float}
 use Rattle.std.specs.Float.{nan, inf, fin, binary64}

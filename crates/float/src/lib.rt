@@ -162,11 +162,8 @@ pub fn flash_over(now: f64, start: f64) -> bool
 pub fn of_bits(n: u64) -> f64
     ensures { result ≡ from_bits binary64 n }
 {
-    if 0x7ff0_0000_0000_0000 < n % 0x8000_0000_0000_0000 {
-        0.0 / 0.0
-    } else {
-        f64::from_bits(n)
-    }
+    let is_nan = 0x7ff0_0000_0000_0000 < n % 0x8000_0000_0000_0000;
+    if is_nan { 0.0 / 0.0 } else { f64::from_bits(n) }
 }
 
 // The bit pattern of an f64; a NaN is written as 0x7FF8000000000000.

@@ -2,17 +2,15 @@
 use Rattle.std.specs.Prelude.{ℕ, ◌≤◌, ◌<◌, ◌≡◌, refl, List, ◌⊎◌}
 use Rattle.std.proofs.Common.{inr, arith}
 use borrow.Author.Tests.{le-ltb, eqb-true}
-use Rattle.base.specs.RangeLaws.{and_left, every-at}
+use Rattle.base.specs.RangeLaws.{every-at}
 use Rattle.base.specs.First.{first}
 use Rattle.base.specs.FirstLaws.{until-behind}
 use Rattle.base.specs.declared.Place.{Place}
 use Rattle.base.specs.declared.Place.TheVariants.{At, Nothing}
-use Rattle.profile.specs.Profile.{records, byte_at, half_at, verdict}
+use Rattle.profile.specs.Profile.{records, byte_at, verdict}
 use Rattle.profile.specs.Fields.{bank-at}
 use Rattle.profile.specs.Accepted.{accepted, kinds-rise}
-use Rattle.lookup.specs.Gather.{gather}
-use Rattle.lookup.specs.GatherLaws.{gather-short}
-use Rattle.lookup.specs.Lookup.{is_past, reach, entry, of_part, scenes_of, entry_at, transports_of, half_of, device_of, is_entry}
+use Rattle.lookup.specs.Lookup.{is_past, reach, entry, half_of, device_of, is_entry}
 use Rattle.lookup.specs.FirstMore.{first_short}
 use Rattle.lookup.specs.LookupLaws.{reach-le, entry-is}
 
@@ -31,20 +29,6 @@ module _ (s : List ℕ) (ok : verdict s ≡ 0) where
   entry_whole kind part number =
       first_short (is_entry s kind part number) (reach s kind) (records s) (reach-le s kind)
       (λ k l e. in_reach kind k l (eqb-true (byte_at s k 0) kind (every-at _ 0 e)))
-
-  -- a bank's scenes are all that the file has
-  pub scenes-whole : (b : ℕ) → scenes_of s b ≡ gather (records s) (of_part s 4 b) (λ k. half_at s k 4)
-  unfolding scenes_of
-  scenes-whole b =
-      gather-short (of_part s 4 b) (λ k. half_at s k 4) (reach s 4) (records s) (reach-le s 4)
-      (λ k l e. in_reach 4 k l (eqb-true (byte_at s k 0) 4 (and_left _ _ e)))
-
-  -- and so are a part's transport buttons
-  pub transports-whole : (part : ℕ) → transports_of s part ≡ gather (records s) (of_part s 5 part) (entry_at s)
-  unfolding transports_of
-  transports-whole part =
-      gather-short (of_part s 5 part) (entry_at s) (reach s 5) (records s) (reach-le s 5)
-      (λ k l e. in_reach 5 k l (eqb-true (byte_at s k 0) 5 (and_left _ _ e)))
 
 -- ── banks ──
 

@@ -4,7 +4,6 @@ pub mod View
 pub mod SeenLaws
 pub mod GatherLaws
 pub mod LookupLaws
-pub mod SceneLaws
 pub mod FirstMore
 pub mod TransportLaws
 pub mod CommonLaws

@@ -113,7 +113,8 @@ pub fn cause(s: &[u8]) -> u8
     if !once_each(s) {
         return 3;
     }
-    if found == 1 {
+    let bankless = found == 1;
+    if bankless {
         return 4;
     }
     0

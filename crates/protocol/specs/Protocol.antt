@@ -8,7 +8,6 @@ use Rattle.base.specs.declared.Place.TheVariants as place
 use Rattle.float.specs.Leaf.{value_of, position_of}
 use Rattle.protocol.specs.declared.Event.{Event}
 use Rattle.protocol.specs.declared.Event.TheVariants as event
-use Rattle.protocol.specs.declared.Button.{Button}
 use Rattle.protocol.specs.declared.Found.{Found}
 use Rattle.protocol.specs.declared.Found.TheVariants.{At, Nothing}
 use Rattle.protocol.specs.declared.Out.{Out}

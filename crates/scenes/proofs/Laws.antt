@@ -19,9 +19,9 @@ use Rattle.base.specs.declared.Place.{Place}
 use Rattle.base.specs.declared.Place.TheVariants as place
 use Rattle.profile.specs.Profile.{count_of, verdict}
 use Rattle.profile.specs.Accepted.{few-scenes}
-use Rattle.lookup.specs.GatherLaws.{gather-length}
+use Rattle.lookup.proofs.GatherLaws.{gather-length}
 use Rattle.lookup.specs.Lookup.{scenes_of, position}
-use Rattle.lookup.specs.Known.{scenes-whole}
+use Rattle.lookup.proofs.Known.{scenes-whole}
 use Rattle.drivers.specs.Talk.{Talk, Got, got, next, current_of, load_of, scenes_of as askScenes}
 use Rattle.drivers.specs.Shown.{seen_names, listed, shown}
 use Rattle.drivers.specs.declared.Io.{Io}

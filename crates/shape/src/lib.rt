@@ -24,7 +24,8 @@ fn shaped_line(line: Line) -> bool
     let mut i: usize = 0;
     while i < n {
         let m = line.list[i];
-        if 15 < m.channel {
+        let high = 15 < m.channel;
+        if high {
             return false;
         }
         let mut j: usize = 0;
@@ -191,7 +192,8 @@ fn no_target_twice(targets: &[u16; 256], n: usize) -> bool
 fn shaped_silenced(targets: &[u16; 256], n: usize) -> bool
     ensures { TellsHushed result targets.now n }
 {
-    if 256 < n {
+    let many = 256 < n;
+    if many {
         return false;
     }
     no_target_twice(targets, n)

@@ -57,7 +57,8 @@ fn meet(
     ensures k_lt_count { (k < result.count) × (result.count ≤ count + 1) × (length players.new ≡ 32) }
 {
     let ps: &mut [u32] = players;
-    if k < count {
+    let known = k < count;
+    if known {
         return Met {
             io: io,
             count: count,

@@ -1,5 +1,4 @@
 use Rattle.after.proofs.Laws.{lasts, lasts-within}
-use borrow.Author.Rules.{rules}
 use Rattle.after.proofs.after.Goals as goal
 
 pub returns : goal.returns

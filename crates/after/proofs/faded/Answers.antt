@@ -1,5 +1,4 @@
 use Rattle.after.proofs.Laws.{fades, fades-within}
-use borrow.Author.Rules.{rules}
 use Rattle.after.proofs.faded.Goals as goal
 
 pub returns : goal.returns

@@ -1,5 +1,4 @@
 use mathlib.Core.Path.{refl}
-use borrow.Author.Rules.{rules}
 use Rattle.after.proofs.line_after.Goals as goal
 
 pub returns-then-ticks : goal.returns-then-ticks

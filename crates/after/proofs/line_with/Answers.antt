@@ -1,5 +1,4 @@
 use mathlib.Core.Path.{refl}
-use borrow.Author.Rules.{rules}
 use Rattle.after.proofs.line_with.Goals as goal
 
 pub returns-in-Ignored : goal.returns-in-Ignored

@@ -1,5 +1,4 @@
 use Rattle.after.proofs.Laws.{renewed, renewed-few}
-use borrow.Author.Rules.{rules}
 use Rattle.after.proofs.live_after.Goals as goal
 
 pub returns-then-changed : goal.returns-then-changed

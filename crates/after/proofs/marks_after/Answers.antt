@@ -1,4 +1,3 @@
-use borrow.Author.Rules.{rules}
 use Rattle.after.proofs.marks_after.Goals as goal
 
 pub returns-then-changed : goal.returns-then-changed

@@ -1,4 +1,3 @@
-use borrow.Author.Rules.{rules}
 use Rattle.after.proofs.marks_with.Goals as goal
 
 pub returns-in-Taken : goal.returns-in-Taken

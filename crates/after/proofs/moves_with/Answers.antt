@@ -1,4 +1,3 @@
-use borrow.Author.Rules.{rules}
 use Rattle.after.proofs.moves_with.Goals as goal
 
 pub returns-in-Held : goal.returns-in-Held

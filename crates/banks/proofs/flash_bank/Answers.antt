@@ -1,6 +1,5 @@
 use native.Mathlib.Omega.{arith}
 use Rattle.banks.proofs.Laws.{shows-bank}
-use borrow.Author.Rules.{rules}
 use Rattle.banks.proofs.flash_bank.Goals as goal
 
 pub flash_number-requires : goal.flash_number-requires

@@ -1,6 +1,5 @@
 use mathlib.Core.Path.{sym, ◌∙◌}
 use Rattle.banks.proofs.Laws.{left_end, one_left, one_right, right_end}
-use borrow.Author.Rules.{rules}
 use Rattle.banks.proofs.next_bank.Goals as goal
 
 pub returns-then-bank-eq0 : goal.returns-then-bank-eq0

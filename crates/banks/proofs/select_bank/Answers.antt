@@ -1,5 +1,4 @@
 use Rattle.banks.proofs.Laws.{selects}
-use borrow.Author.Rules.{rules}
 use Rattle.banks.proofs.select_bank.Goals as goal
 
 pub returns : goal.returns

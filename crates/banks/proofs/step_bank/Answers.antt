@@ -1,5 +1,4 @@
 use Rattle.banks.proofs.Laws.{holds, steps}
-use borrow.Author.Rules.{rules}
 use Rattle.banks.proofs.step_bank.Goals as goal
 
 pub returns-then-there-bank : goal.returns-then-there-bank

@@ -1,5 +1,4 @@
 -- `bridge::act` meets its contract. Assumes nothing.
-use borrow.Author.Rules.{rules}
 use Rattle.bridge.proofs.act.Goals as goal
 
 pub returns-then-at : goal.returns-then-at

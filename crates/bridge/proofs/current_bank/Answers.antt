@@ -1,5 +1,4 @@
 -- `bridge::current_bank` meets its contract. Assumes nothing.
-use borrow.Author.Rules.{rules}
 use borrow.Author.Tests.{not-true, not-false}
 use Rattle.bridge.proofs.HandLaws.{known-bank, unknown-bank}
 use Rattle.bridge.proofs.current_bank.Goals as goal

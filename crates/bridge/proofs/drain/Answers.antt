@@ -1,5 +1,4 @@
 -- `bridge::drain` meets its contract. Assumes nothing.
-use borrow.Author.Rules.{rules}
 use Rattle.bridge.proofs.drain.Goals as goal
 
 pub drain_line-requires : goal.drain_line-requires

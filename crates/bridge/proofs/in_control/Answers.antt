@@ -6,7 +6,6 @@ use Rattle.base.specs.KeyedLaws.{long}
 use Rattle.session.specs.SessionLaws.{line-room}
 use Rattle.bridge.proofs.Fit.{bank-low, line-is, line-few, live-is}
 use Rattle.bridge.proofs.HandLaws.{in_control}
-use borrow.Author.Rules.{rules}
 use Rattle.bridge.proofs.in_control.Goals as goal
 
 -- `bridge::in_control` meets its contract. Assumes nothing.

@@ -1,5 +1,4 @@
 -- `bridge::is_idle` meets its contract. Assumes nothing.
-use borrow.Author.Rules.{rules}
 use Rattle.bridge.proofs.is_idle.Goals as goal
 
 pub returns : goal.returns

@@ -2,7 +2,6 @@
 use native.Mathlib.Omega.{arith}
 use mathlib.Core.Path.{sym, ◌∙◌}
 use Rattle.bridge.proofs.Fit.{bank-low}
-use borrow.Author.Rules.{rules}
 use Rattle.bridge.proofs.on_fader.Goals as goal
 
 pub is_marked-requires : goal.is_marked-requires

@@ -8,7 +8,6 @@ use Rattle.bounds.specs.Whole.{well-seen}
 use Rattle.bridge.proofs.Fit.{bank-low, line-few, places}
 use Rattle.bridge.proofs.StepLaws.{declines, step-declines}
 use Rattle.bridge.proofs.TalkLaws.{eleven_if, talked-undone, talked-done}
-use borrow.Author.Rules.{rules}
 use Rattle.bridge.proofs.on_other.Goals as goal
 
 pub returns-then-overfull : goal.returns-then-overfull

@@ -5,7 +5,6 @@ use Rattle.base.specs.KeyedLaws.{long}
 use Rattle.bridge.proofs.Fit.{bank-low, live-is, silenced-few}
 use Rattle.bridge.proofs.HandLaws.{rig-is}
 use Rattle.bridge.proofs.TalkLaws.{adds-few, rig-now, over-so}
-use borrow.Author.Rules.{rules}
 use Rattle.bridge.proofs.overfull.Goals as goal
 
 pub current_bank-here-requires : goal.current_bank-here-requires

@@ -1,5 +1,4 @@
 -- `bridge::setting_of` meets its contract. Assumes nothing.
-use borrow.Author.Rules.{rules}
 use Rattle.bridge.proofs.setting_of.Goals as goal
 
 pub returns : goal.returns

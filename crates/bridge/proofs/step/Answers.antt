@@ -14,7 +14,6 @@ use Rattle.definition.specs.Whole.{whole}
 use Rattle.delivery.specs.declared.Outcome.TheVariants as outcome
 use Rattle.bridge.specs.Bridge.{Delivers, declined_of}
 use Rattle.bridge.proofs.StepLaws.{stays, declines, whole-declines, passes, passes_on, unread}
-use borrow.Author.Rules.{rules}
 use Rattle.bridge.proofs.step.Goals as goal
 
 -- an event that one of the numbers 1 to 9 declines
@@ -55,7 +54,7 @@ on_event-requires c =
     let levels_long : length c.args.session.silenced.levels ≡ 256 = search (long, c.well_formed.0.1.1.1.1.1.1.1.1.1.1.1.0) in
     let told : c.shaped_parts.result ≡ well_shaped c.args.profile.now c.args.session = c.shaped_parts.ensures c.args.session (own-parts c.args.session levels_long) in
     let passed : declined_of c.args.profile.now c.args.session (length c.args.messages.now) (length c.args.calls.now) ≡ 0 =
-      rw (← c.examine-why.ensures, eq-eqb _ _ c.if-why-ne0.false, sym told ∙ not-false c.shaped_parts.result c.if-not-shaped_parts.false-raw, c.if-messages-calls.false) in
+    rw (← c.examine-why.ensures, eq-eqb _ _ c.if-why-ne0.false, sym told ∙ not-false c.shaped_parts.result c.if-not-shaped_parts.false-raw, c.if-messages-calls.false) in
     let w = passes c.args.profile.now c.args.session c.args.event.now c.args.answers.now _ _ passed in record { profile_value = w.accepted; session_value = w.shaped; in_bounds = w.messages; in_bounds_2 = w.calls; low_input = read_low c.args.event.now (λ j. omega (arith, c.shared_slice_known-2-1.given j)) _ (sym c.read_event.ensures ∙ c.in-Known.is) }
 
 pub returns-in-Known : goal.returns-in-Known
@@ -63,7 +62,7 @@ returns-in-Known c =
     let levels_long : length c.args.session.silenced.levels ≡ 256 = search (long, c.well_formed.0.1.1.1.1.1.1.1.1.1.1.1.0) in
     let told : c.shaped_parts.result ≡ well_shaped c.args.profile.now c.args.session = c.shaped_parts.ensures c.args.session (own-parts c.args.session levels_long) in
     let passed : declined_of c.args.profile.now c.args.session (length c.args.messages.now) (length c.args.calls.now) ≡ 0 =
-      rw (← c.examine-why.ensures, eq-eqb _ _ c.if-why-ne0.false, sym told ∙ not-false c.shaped_parts.result c.if-not-shaped_parts.false-raw, c.if-messages-calls.false) in
+    rw (← c.examine-why.ensures, eq-eqb _ _ c.if-why-ne0.false, sym told ∙ not-false c.shaped_parts.result c.if-not-shaped_parts.false-raw, c.if-messages-calls.false) in
     passes_on c.args.profile.now c.args.session c.args.event.now c.args.answers.now _ _ passed c.read_event.result _ c.read_event.ensures
     c.in-Known.is _ _ _ _ _ c.on_event.ensures
 
@@ -72,7 +71,7 @@ returns-in-Unknown c =
     let levels_long : length c.args.session.silenced.levels ≡ 256 = search (long, c.well_formed.0.1.1.1.1.1.1.1.1.1.1.1.0) in
     let told : c.shaped_parts.result ≡ well_shaped c.args.profile.now c.args.session = c.shaped_parts.ensures c.args.session (own-parts c.args.session levels_long) in
     let passed : declined_of c.args.profile.now c.args.session (length c.args.messages.now) (length c.args.calls.now) ≡ 0 =
-      rw (← c.examine-why.ensures, eq-eqb _ _ c.if-why-ne0.false, sym told ∙ not-false c.shaped_parts.result c.if-not-shaped_parts.false-raw, c.if-messages-calls.false) in
+    rw (← c.examine-why.ensures, eq-eqb _ _ c.if-why-ne0.false, sym told ∙ not-false c.shaped_parts.result c.if-not-shaped_parts.false-raw, c.if-messages-calls.false) in
     rw c.stays-in-Unknown.ensures
     (declines _ 10 _ _ _ _
     (unread c.args.profile.now c.args.session c.args.event.now c.args.answers.now _ _ passed c.read_event.result c.read_event.ensures

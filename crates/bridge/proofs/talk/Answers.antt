@@ -28,7 +28,6 @@ use Rattle.bridge.specs.Bridge.{IsCurrent, setting_of}
 use Rattle.bridge.proofs.Fit.{bank-low, bank-below, live-is, line-few, line-is, turns-few, turns-wired, silenced-few, silenced-once, note-is}
 use Rattle.bridge.proofs.HandLaws.{rig-is}
 use Rattle.bridge.proofs.TalkLaws.{rig-now, bank-by-low, fits-so, given_so, room-so, talks-so}
-use borrow.Author.Rules.{rules}
 use Rattle.bridge.proofs.talk.Goals as goal
 
 module _ (profile : List ℕ) (session : Session) (at : Setting) (e : Timed) where
@@ -100,10 +99,14 @@ ending-f-requires c =
     let home = c.home_of-home in
     let ran = c.act-left in
     let opened-long : length c.args.session.opened ≡ 16 = search (long, c.well_formed.0.1.1.1.1.1.1.1.1.1.1.1) in
-    record { in_bounds = b.requires.in_bounds; in_bounds_2 = b.requires.in_bounds_2; has_room = room-so b.args.profile.now b.args.session b.args.e b.args.answers.now here.result (rig-now b.args.profile.now b.args.session ∙ rig-is b.args.profile.now b.args.session b.args.session.bank here.result here.ensures) b.args.at.ticks _ _
-            (c.fresh-io.ensures _ _ _) (ap (λ (a : Setting). a.ticks) b.requires.at_value) b.args.at.due ran.result _
-            (ran.ensures.runs_any (seen b.args.profile.now b.args.session) (given-at c.args.profile.now c.args.session c.args.targets.now c.args.levels.now c.args.at.after here.result there.result home.result c.requires.session_value c.requires.targets_value.0 c.requires.targets_value.1 here.ensures there.ensures home.ensures) (due-at c.args.profile.now c.args.session c.args.at c.args.e c.requires.at_value))
-            b.requires.profile_value (well-seen b.args.profile.now b.args.session opened-long b.requires.session_value) b.requires.time_value _ _ _ refl }
+    record {
+      in_bounds = b.requires.in_bounds;
+      in_bounds_2 = b.requires.in_bounds_2;
+      has_room = room-so b.args.profile.now b.args.session b.args.e b.args.answers.now here.result (rig-now b.args.profile.now b.args.session ∙ rig-is b.args.profile.now b.args.session b.args.session.bank here.result here.ensures) b.args.at.ticks _ _
+          (c.fresh-io.ensures _ _ _) (ap (λ (a : Setting). a.ticks) b.requires.at_value) b.args.at.due ran.result _
+          (ran.ensures.runs_any (seen b.args.profile.now b.args.session) (given-at c.args.profile.now c.args.session c.args.targets.now c.args.levels.now c.args.at.after here.result there.result home.result c.requires.session_value c.requires.targets_value.0 c.requires.targets_value.1 here.ensures there.ensures home.ensures) (due-at c.args.profile.now c.args.session c.args.at c.args.e c.requires.at_value))
+          b.requires.profile_value (well-seen b.args.profile.now b.args.session opened-long b.requires.session_value) b.requires.time_value _ _ _ refl;
+    }
 
 pub returns : goal.returns
 returns c =

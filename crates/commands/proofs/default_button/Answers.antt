@@ -1,7 +1,6 @@
 use Prim.Native.Nat.{◌≤◌}
 use native.Mathlib.Omega.{arith}
 use Rattle.commands.proofs.Laws.{low-name, no-driver, offers-nothing, offers}
-use borrow.Author.Rules.{rules}
 use Rattle.commands.proofs.default_button.Goals as goal
 
 pub returns-then-name : goal.returns-then-name

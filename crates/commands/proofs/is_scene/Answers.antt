@@ -1,4 +1,3 @@
-use borrow.Author.Rules.{rules}
 use Rattle.commands.proofs.is_scene.Goals as goal
 
 pub returns-in-Run : goal.returns-in-Run

@@ -1,5 +1,4 @@
 use Rattle.commands.proofs.Laws.{profile-says, driver-says}
-use borrow.Author.Rules.{rules}
 use Rattle.commands.proofs.rec_loads.Goals as goal
 
 pub returns-then-action-ne0 : goal.returns-then-action-ne0

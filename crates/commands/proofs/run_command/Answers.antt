@@ -1,5 +1,4 @@
 use Rattle.commands.proofs.Laws.{runs-bound, runs-offered}
-use borrow.Author.Rules.{rules}
 use Rattle.commands.proofs.run_command.Goals as goal
 
 pub returns-in_default : goal.returns-in_default

@@ -2,11 +2,10 @@ use native.Mathlib.Omega.{arith}
 use mathlib.Core.Path.{◌≡◌}
 use lib.ListN.{length}
 use Rattle.delivery.proofs.Laws.{ends-undone, ends-done}
-use borrow.Author.Rules.{rules}
 use Rattle.delivery.proofs.ending.Goals as goal
 
-pub returns-then-io-ne-GOING : goal.returns-then-io-ne-GOING
-returns-then-io-ne-GOING c =
+pub returns-then-stopped : goal.returns-then-stopped
+returns-then-stopped c =
     let s = c in
     ends-undone s.args.io s.args.cs.now s.args.ms.now s.args.saved _ _ _ (λ z. omega arith) c.undone-o.ensures
 

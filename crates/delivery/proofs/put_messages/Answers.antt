@@ -1,7 +1,5 @@
 use Prim.Native.Nat.{◌*◌}
 use native.Mathlib.Omega.{arith}
-use lib.ListN.{length-take}
-use borrow.Author.Rules.{rules}
 use Rattle.drivers.specs.BytesLaws.{bytes-messages}
 use Rattle.delivery.proofs.Laws.{copied, at_front_lem}
 use Rattle.delivery.proofs.put_messages.Goals as goal

@@ -1,6 +1,5 @@
 use Rattle.event.specs.Event.{event_ok}
 use borrow.Author.Tests.{lt-ltb, le-ltb}
-use borrow.Author.Rules.{rules}
 use Rattle.event.proofs.event_ok.Goals as goal
 
 pub returns-then-event-lt16 : goal.returns-then-event-lt16

@@ -9,7 +9,6 @@ use borrow.Author.Tests.{not-false, ltb-false, leb-true, not-true}
 use Rattle.base.specs.Choice.{pick}
 use Rattle.base.specs.RangeLaws.{and_right}
 use Rattle.event.specs.Event.{event_ok, read_of}
-use borrow.Author.Rules.{rules}
 use Rattle.event.proofs.read_event.Goals as goal
 
 -- a record that is taken is whole, and its message is three bytes at most

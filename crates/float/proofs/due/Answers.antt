@@ -1,5 +1,5 @@
 -- `due` meets its contract: the cast alone does what `floor`, `max` and the cast do (`same-cast`). Assumes nothing.
-use Rattle.std.proofs.Common.{◌≡◌, ℕ, ◌+◌, ◌%◌, ◌^◌, ◌<◌, ◌≤◌, min, sym, ◌∙◌, le_of_lt, rules}
+use Rattle.std.proofs.Common.{◌≡◌, ℕ, ◌+◌, ◌%◌, ◌^◌, ◌<◌, ◌≤◌, min, sym, ◌∙◌, le_of_lt}
 use native.Mathlib.Nat.{min-eq_left, min-eq_right}
 use lib.Ieee.{Float, binary64, sub, div, to_unsigned}
 use lib.Ieee.Fits.{div-fits}

@@ -1,4 +1,4 @@
-use Rattle.std.proofs.Common.{ap, rules}
+use Rattle.std.proofs.Common.{ap}
 use lib.Ieee.{lt}
 use Rattle.float.specs.Leaf.{near}
 use Rattle.float.proofs.far.Goals as goal

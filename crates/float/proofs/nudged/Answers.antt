@@ -1,5 +1,5 @@
 -- The cast reads the sum back from its bits, which is the sum (`to_z-of_z`).
-use Rattle.std.proofs.Common.{ap, ◌∙◌, w32, rules}
+use Rattle.std.proofs.Common.{ap, ◌∙◌, w32}
 use mir.ValLaws.{to_z-of_z}
 use Rattle.float.specs.Leaf.{nudge}
 use Rattle.float.proofs.nudged.Goals as goal

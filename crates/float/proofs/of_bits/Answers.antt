@@ -1,4 +1,4 @@
-use Rattle.std.proofs.Common.{◌≡◌, ℕ, ◌%◌, ◌^◌, ◌<◌, ◌≤◌, not, T, sym, refl, ◌∙◌, subst, rules, le-ltb, lt-ltb}
+use Rattle.std.proofs.Common.{◌≡◌, ℕ, ◌%◌, ◌^◌, ◌<◌, ◌≤◌, not, T, sym, refl, ◌∙◌, subst, le-ltb, lt-ltb}
 use lib.Ieee.{Float, nan, inf, fin, binary64, div, of_bits, is_nan, nan_bits}
 use lib.Ieee.Bits.{nan_bits_is, nan_bits_above}
 use Rattle.float.proofs.of_bits.Goals as goal
@@ -20,7 +20,7 @@ by-nan : (n : ℕ) → 0x7ff0_0000_0000_0000 < n % 2 ^ 63 → div binary64 (of_b
 by-nan n h = quotient ∙ is-nan (of_bits binary64 n) (subst T (sym (sym (nan_bits_is binary64 n) ∙ nan_bits_above binary64 n ∙ lt-ltb _ _ h)) tt)
 
 pub float_from_bits-result : goal.float_from_bits-result
-float_from_bits-result c = no_nan c.args.n c.if-n-gt9218868437227405312.false
+float_from_bits-result c = no_nan c.args.n c.if-is_nan.false
 
-pub returns-then-n-gt9218868437227405312 : goal.returns-then-n-gt9218868437227405312
-returns-then-n-gt9218868437227405312 c = by-nan c.args.n c.if-n-gt9218868437227405312.true
+pub returns-then-is_nan : goal.returns-then-is_nan
+returns-then-is_nan c = by-nan c.args.n c.if-is_nan.true

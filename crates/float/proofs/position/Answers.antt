@@ -1,5 +1,5 @@
 -- `place::position` meets its contract. The product x is a value of the format, so it is what its bits b are read as, and each return is a case of `proofs/Held.antt`. Assumes nothing.
-use Rattle.std.proofs.Common.{◌≡◌, ℕ, ◌+◌, ◌-◌, ◌/◌, ◌%◌, ◌^◌, true, not, T, sym, ap, ◌∙◌, subst, le_of_lt, mod-lt, arith, pow_pos, rules}
+use Rattle.std.proofs.Common.{◌≡◌, ℕ, ◌+◌, ◌-◌, ◌/◌, ◌%◌, ◌^◌, true, not, T, sym, ap, ◌∙◌, subst, le_of_lt, mod-lt, arith, pow_pos}
 use native.Mathlib.Nat.{min-eq_left, min-eq_right}
 use lib.Pow.{shr_le}
 use lib.Ieee.{Float, binary64, mul, ne, is_nan, of_bits, to_bits}

@@ -1,4 +1,3 @@
-
 use Rattle.float.proofs.same_range.Goals as goal
 
 pub returns-then-low-low2 : goal.returns-then-low-low2

@@ -1,4 +1,4 @@
-use Rattle.std.proofs.Common.{◌≡◌, true, T, sym, ap, subst, rules}
+use Rattle.std.proofs.Common.{◌≡◌, true, T, sym, ap, subst}
 use lib.Ieee.{Float, binary64, ne, to_bits}
 use lib.Ieee.Compare.{differs_from_itself}
 use Rattle.float.proofs.Bits.{no_nan}

@@ -1,5 +1,5 @@
 -- `place::to_u32` meets its contract. Each return has a lemma whose premises are the tests that lead there, as the code has them; `search` finds them in what is known there. Assumes nothing.
-use Rattle.std.proofs.Common.{◌≡◌, ℕ, ◌+◌, ◌-◌, ◌/◌, ◌^◌, ◌<◌, ◌≤◌, true, false, not, T, sym, ap, ◌∙◌, subst, arith, rules}
+use Rattle.std.proofs.Common.{◌≡◌, ℕ, ◌+◌, ◌-◌, ◌/◌, ◌^◌, ◌<◌, ◌≤◌, true, false, not, T, sym, ap, ◌∙◌, subst, arith}
 use lib.Ieee.{Float, binary64, fits, ne, is_nan, of_bits, to_bits, to_unsigned}
 use lib.Ieee.Compare.{differs_from_itself}
 use lib.Ieee.Bits.{of_bits-to_bits}

@@ -1,6 +1,5 @@
 -- `host::numbers` meets its contract: in each arm the outcome is known at its variant. Assumes nothing.
 use mathlib.Core.Path.{ap, sym}
-use borrow.Author.Rules.{rules}
 use Rattle.host.specs.Report.{report_of}
 use Rattle.host.proofs.numbers.Goals as goal
 

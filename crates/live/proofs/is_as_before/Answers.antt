@@ -1,5 +1,4 @@
 use Rattle.live.proofs.Laws.{first-list, later-list}
-use borrow.Author.Rules.{rules}
 use Rattle.live.proofs.is_as_before.Goals as goal
 
 pub returns-then-not-before : goal.returns-then-not-before

@@ -1,7 +1,6 @@
 use mathlib.Core.Path.{refl}
 use borrow.Author.Tests.{not-false}
 use Rattle.live.proofs.Laws.{not-due, still}
-use borrow.Author.Rules.{rules}
 use Rattle.live.proofs.refresh.Goals as goal
 
 pub returns-then-not-due : goal.returns-then-not-due

@@ -2,7 +2,6 @@ use Prim.Native.Nat.{◌≤◌}
 use mathlib.Core.Path.{refl}
 use native.Mathlib.Omega.{arith}
 use Rattle.live.proofs.Laws.{low-device, asks-nobody, as_before, another, still, renewed}
-use borrow.Author.Rules.{rules}
 use Rattle.live.proofs.refresh_live.Goals as goal
 
 pub returns-then-which-name : goal.returns-then-which-name
@@ -24,8 +23,11 @@ returns-then-is_as_before c = let asked = c in
     let test = asked in
     let name = test.device_of-name in
     let which = test.live_of-which in
-    let start = test in record { messages_after = as_before _ _ _ _ _ which.result name.result which.ensures name.ensures _ _ _ _ _ test.if-which-name.false asked.live_faders-g.ensures.messages_after
-          handed.ensures.result_value c.is_as_before.ensures c.if-is_as_before.true; still_here = still start.args.here _ refl refl start.requires.count_bound }
+    let start = test in record {
+      messages_after = as_before _ _ _ _ _ which.result name.result which.ensures name.ensures _ _ _ _ _ test.if-which-name.false asked.live_faders-g.ensures.messages_after
+          handed.ensures.result_value c.is_as_before.ensures c.if-is_as_before.true;
+      still_here = still start.args.here _ refl refl start.requires.count_bound;
+    }
 
 pub push_state-v-requires : goal.push_state-v-requires
 push_state-v-requires c = let handed = c in
@@ -37,5 +39,8 @@ returns c = let same = c in
     let asked = same in
     let test = asked in
     let name = test.device_of-name in
-    let which = test.live_of-which in record { messages_after = another _ _ _ _ _ which.result name.result which.ensures name.ensures _ _ _ _ _ test.if-which-name.false asked.live_faders-g.ensures.messages_after
-          handed.ensures.result_value same.is_as_before.ensures _ same.if-is_as_before.false c.push_state-v.ensures; still_here = renewed _ _ _ refl handed.ensures.count_bound handed.ensures.result_value }
+    let which = test.live_of-which in record {
+      messages_after = another _ _ _ _ _ which.result name.result which.ensures name.ensures _ _ _ _ _ test.if-which-name.false asked.live_faders-g.ensures.messages_after
+          handed.ensures.result_value same.is_as_before.ensures _ same.if-is_as_before.false c.push_state-v.ensures;
+      still_here = renewed _ _ _ refl handed.ensures.count_bound handed.ensures.result_value;
+    }

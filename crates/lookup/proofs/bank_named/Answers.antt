@@ -1,15 +1,11 @@
 -- `lookup::bank_named` meets its contract. Assumes nothing.
-use Prim.Native.Nat.{◌≤◌, ◌-◌}
-use mathlib.Core.Path.{◌≡◌, sym, ◌∙◌}
+use mathlib.Core.Path.{sym, ◌∙◌}
 use native.Mathlib.Omega.{arith}
-use lib.Dec.{eqb}
 use borrow.Author.Tests.{eq-eqb, ne_eqb}
 use borrow.Author.Rules.{rules}
-use Rattle.base.specs.First.{first}
 use Rattle.base.specs.FirstLaws.{first-none, first_more, first_done, first-hit}
-use Rattle.base.specs.declared.Place.TheVariants.{Nothing}
 use Rattle.profile.specs.Accepted.{few-banks}
-use Rattle.lookup.specs.Lookup.{name_of, bank_named}
+use Rattle.lookup.specs.Lookup.{bank_named}
 use Rattle.lookup.proofs.bank_named.Goals as goal
 
 pub loop-b-init : goal.loop-b-init

@@ -1,15 +1,10 @@
 -- `lookup::bank_named` meets its contract. Assumes nothing.
 use Prim.Native.Nat.{◌≤◌, ◌-◌}
-use mathlib.Core.Path.{◌≡◌, sym, ◌∙◌}
-use native.Mathlib.Omega.{arith}
+use mathlib.Core.Path.{◌≡◌}
 use lib.Dec.{eqb}
-use borrow.Author.Tests.{eq-eqb, ne_eqb}
-use borrow.Author.Rules.{rules}
 use Rattle.base.specs.First.{first}
-use Rattle.base.specs.FirstLaws.{first-none, first_more, first_done, first-hit}
 use Rattle.base.specs.declared.Place.TheVariants.{Nothing}
-use Rattle.profile.specs.Accepted.{few-banks}
-use Rattle.lookup.specs.Lookup.{name_of, bank_named}
+use Rattle.lookup.specs.Lookup.{name_of}
 use Rattle.lookup.proofs.bank_named.Given as goal
 
 abbrev pub invariant-loop-b : goal.invariant-loop-b

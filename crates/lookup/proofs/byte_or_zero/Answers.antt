@@ -1,7 +1,6 @@
 -- `lookup::byte_or_zero` meets its contract. Assumes nothing.
 use mathlib.Core.Path.{sym}
 use lib.ListN.{get_or-eq_default}
-use borrow.Author.Rules.{rules}
 use Rattle.lookup.proofs.byte_or_zero.Goals as goal
 
 -- `lookup::byte_or_zero` meets its contract. Assumes nothing.

@@ -1,5 +1,4 @@
 -- `lookup::command_at` meets its contract. Assumes nothing.
-use borrow.Author.Rules.{rules}
 use Rattle.lookup.proofs.command_at.Goals as goal
 
 pub returns : goal.returns

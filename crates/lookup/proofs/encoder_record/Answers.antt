@@ -1,5 +1,4 @@
 -- `lookup::encoder_record` meets its contract. Assumes nothing.
-use borrow.Author.Rules.{rules}
 use Rattle.lookup.specs.Lookup.{encoder_place}
 use Rattle.lookup.specs.LookupLaws.{place-there, place-elsewhere}
 use Rattle.lookup.proofs.encoder_record.Goals as goal

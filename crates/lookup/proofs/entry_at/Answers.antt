@@ -1,5 +1,4 @@
 -- `lookup::entry_at` meets its contract. Assumes nothing.
-use borrow.Author.Rules.{rules}
 use Rattle.lookup.proofs.entry_at.Goals as goal
 
 pub returns : goal.returns

@@ -1,6 +1,5 @@
 -- `lookup::fader` meets its contract. Assumes nothing.
 use mathlib.Core.Path.{sym, ap, ◌∙◌}
-use borrow.Author.Rules.{rules}
 use Rattle.lookup.specs.Lookup.{control_of}
 use Rattle.lookup.specs.LookupLaws.{entry_in}
 use Rattle.lookup.specs.declared.Found.TheVariants as found

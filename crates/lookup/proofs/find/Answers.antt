@@ -1,12 +1,8 @@
 -- `lookup::find` meets its contract. Assumes nothing.
-use Prim.Native.Nat.{◌≤◌, ◌-◌}
-use mathlib.Core.Path.{◌≡◌, sym, ◌∙◌}
+use mathlib.Core.Path.{sym, ◌∙◌}
 use native.Mathlib.Omega.{arith}
 use borrow.Author.Rules.{rules}
-use Rattle.base.specs.First.{first}
 use Rattle.base.specs.FirstLaws.{first-none, first_more}
-use Rattle.base.specs.declared.Place.TheVariants.{Nothing}
-use Rattle.lookup.specs.Lookup.{is_entry, is_past}
 use Rattle.lookup.specs.LookupLaws.{reach_here, reach-end, reach-on, entry-hit, entry-none}
 use Rattle.lookup.proofs.find.Goals as goal
 

@@ -1,5 +1,4 @@
 -- `lookup::is_entry` meets its contract. Assumes nothing.
-use borrow.Author.Rules.{rules}
 use Rattle.base.specs.Range.{every}
 use Rattle.lookup.proofs.is_entry.Goals as goal
 

@@ -1,5 +1,4 @@
 -- `lookup::is_past` meets its contract. Assumes nothing.
-use borrow.Author.Rules.{rules}
 use Rattle.lookup.proofs.is_past.Goals as goal
 
 pub returns : goal.returns

@@ -1,20 +1,16 @@
 -- `lookup::own_transports` meets its contract. Assumes nothing.
-use Prim.Native.Nat.{◌≤◌, ◌-◌}
-use mathlib.Core.Path.{◌≡◌, sym, ◌∙◌}
+use mathlib.Core.Path.{sym, ◌∙◌}
 use native.Mathlib.Omega.{arith}
-use lib.ListN.{length, take}
+use lib.ListN.{take}
 use borrow.Author.Rules.{rules}
-use Rattle.base.specs.Range.{count}
 use Rattle.base.specs.RangeLaws.{count_none}
-use Rattle.base.specs.First.{first}
 use Rattle.base.specs.FirstLaws.{first-none, first_more}
-use Rattle.base.specs.declared.Place.TheVariants.{Nothing}
 use Rattle.profile.specs.Accepted.{few-records}
-use Rattle.lookup.specs.Gather.{gather}
 use Rattle.lookup.specs.GatherLaws.{gather_none, walked-no, walked-yes}
-use Rattle.lookup.specs.Lookup.{is_past, of_part, entry_at, seen_entries}
+use Rattle.lookup.specs.Lookup.{of_part}
 use Rattle.lookup.specs.LookupLaws.{reach_here, reach-end}
-use Rattle.lookup.specs.TransportLaws.{seen-one-more, own-yes, own-no, own-done, own-few}
+use Rattle.lookup.specs.TransportLaws.{seen-one-more, own-done, own-few}
+use Rattle.lookup.proofs.TransportLaws.{own-yes, own-no}
 use Rattle.lookup.proofs.own_transports.Goals as goal
 
 pub loop-k-init : goal.loop-k-init

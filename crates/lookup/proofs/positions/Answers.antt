@@ -1,5 +1,4 @@
 -- `lookup::positions` meets its contract. Assumes nothing.
-use borrow.Author.Rules.{rules}
 use Rattle.lookup.proofs.positions.Goals as goal
 
 pub returns : goal.returns

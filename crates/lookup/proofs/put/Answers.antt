@@ -4,7 +4,6 @@ use mathlib.Core.List.{List}
 use mathlib.Core.Path.{◌≡◌, ap, ◌∙◌}
 use native.Mathlib.Omega.{arith}
 use lib.ListN.{length, length-set}
-use borrow.Author.Rules.{rules}
 use Rattle.base.specs.Keyed.{at}
 use Rattle.profile.specs.Profile.{byte_at}
 use Rattle.lookup.specs.Lookup.{entry_at, of_kind, place, seen_entries}

@@ -1,5 +1,4 @@
 -- `lookup::remember` meets its contract. Assumes nothing.
-use borrow.Author.Rules.{rules}
 use Rattle.lookup.proofs.remember.Goals as goal
 
 pub returns : goal.returns

@@ -1,5 +1,4 @@
 -- `lookup::same` meets its contract. Assumes nothing.
-use borrow.Author.Rules.{rules}
 use Rattle.base.specs.Range.{every}
 use Rattle.lookup.specs.Lookup.{same_dest}
 use Rattle.lookup.proofs.same.Goals as goal

@@ -1,15 +1,11 @@
 -- `lookup::scene_count` meets its contract. Assumes nothing.
-use Prim.Native.Nat.{◌≤◌, ◌-◌}
-use mathlib.Core.Path.{◌≡◌, sym, ◌∙◌}
+use mathlib.Core.Path.{sym, ◌∙◌}
 use native.Mathlib.Omega.{arith}
 use borrow.Author.Rules.{rules}
-use Rattle.base.specs.First.{first}
 use Rattle.base.specs.FirstLaws.{first-none, first_more}
-use Rattle.base.specs.declared.Place.TheVariants.{Nothing}
-use Rattle.lookup.specs.GatherLaws.{Walked, walked_none, walked_on}
-use Rattle.lookup.specs.Lookup.{is_past, of_part}
+use Rattle.lookup.specs.GatherLaws.{walked_none, walked_on}
 use Rattle.lookup.specs.LookupLaws.{reach_here, reach-end}
-use Rattle.lookup.specs.SceneLaws.{scenes-counted}
+use Rattle.lookup.proofs.SceneLaws.{scenes-counted}
 use Rattle.lookup.proofs.scene_count.Goals as goal
 
 pub loop-k-init : goal.loop-k-init

@@ -1,17 +1,11 @@
 -- `lookup::scene_position` meets its contract. Assumes nothing.
-use Prim.Native.Nat.{◌≤◌, ◌-◌}
-use mathlib.Core.Path.{◌≡◌, sym, ◌∙◌}
+use mathlib.Core.Path.{sym, ◌∙◌}
 use native.Mathlib.Omega.{arith}
-use lib.Dec.{eqb}
-use lib.ListN.{get_or}
 use borrow.Author.Rules.{rules}
-use Rattle.base.specs.First.{first}
 use Rattle.base.specs.FirstLaws.{first-none, first_more}
-use Rattle.base.specs.declared.Place.TheVariants.{Nothing}
-use Rattle.lookup.specs.GatherLaws.{Walked, walked_none, walked-no, walked-yes}
-use Rattle.lookup.specs.Lookup.{is_past, of_part, scenes_of}
+use Rattle.lookup.specs.GatherLaws.{walked_none, walked-no, walked-yes}
 use Rattle.lookup.specs.LookupLaws.{reach_here, reach-end, reach-on}
-use Rattle.lookup.specs.SceneLaws.{position-hit, position-more, position-done}
+use Rattle.lookup.proofs.SceneLaws.{position-hit, position-more, position-done}
 use Rattle.lookup.proofs.scene_position.Goals as goal
 
 pub loop-k-init : goal.loop-k-init

@@ -1,5 +1,4 @@
 -- `lookup::select_is_bank` meets its contract. Assumes nothing.
-use borrow.Author.Rules.{rules}
 use Rattle.lookup.proofs.select_is_bank.Goals as goal
 
 pub returns : goal.returns

@@ -1,11 +1,10 @@
 -- `lookup::times_in` meets its contract. Assumes nothing.
-use Prim.Native.Nat.{◌≤◌, ◌-◌}
+use Prim.Native.Nat.{◌≤◌}
 use mathlib.Core.Path.{◌≡◌, sym, ◌∙◌}
 use native.Mathlib.Omega.{arith}
 use lib.Dec.{eqb}
 use lib.ListN.{length, get_or}
 use borrow.Author.Rules.{rules}
-use Rattle.base.specs.Range.{count}
 use Rattle.base.specs.RangeLaws.{count_none, count-more, count-done}
 use Rattle.lookup.specs.Lookup.{seen_drivers, times}
 use Rattle.base.specs.KeyedLaws as laws

@@ -1,8 +1,7 @@
 -- `lookup::transport` meets its contract. Assumes nothing.
 use mathlib.Core.Path.{sym, ap, ◌∙◌}
-use borrow.Author.Rules.{rules}
 use Rattle.lookup.specs.LookupLaws.{entry_in}
-use Rattle.lookup.specs.TransportLaws.{transport-is}
+use Rattle.lookup.proofs.TransportLaws.{transport-is}
 use Rattle.lookup.specs.declared.Bound.TheVariants as bound
 use Rattle.lookup.proofs.transport.Goals as goal
 

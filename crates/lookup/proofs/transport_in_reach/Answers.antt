@@ -1,6 +1,5 @@
 -- `lookup::transport_in_reach` meets its contract. Assumes nothing.
 use Rattle.lookup.specs.LookupLaws.{runs-there, runs-elsewhere}
-use borrow.Author.Rules.{rules}
 use Rattle.lookup.proofs.transport_in_reach.Goals as goal
 
 pub returns-in-Run : goal.returns-in-Run

@@ -1,19 +1,15 @@
 -- `lookup::transports` meets its contract. Assumes nothing.
-use Prim.Native.Nat.{◌≤◌, ◌-◌, ◌+◌}
-use mathlib.Core.Path.{◌≡◌, sym, ◌∙◌}
+use Prim.Native.Nat.{◌+◌}
+use mathlib.Core.Path.{sym, ◌∙◌}
 use native.Mathlib.Omega.{arith}
-use lib.ListN.{length}
 use borrow.Author.Rules.{rules}
-use Rattle.base.specs.Range.{count}
-use Rattle.base.specs.First.{first}
 use Rattle.base.specs.FirstLaws.{first-none, first_more}
-use Rattle.base.specs.declared.Place.TheVariants.{Nothing}
 use Rattle.profile.specs.Accepted.{few-records}
 use Rattle.profile.specs.RangeMore.{count-mono, count-lt}
-use Rattle.lookup.specs.Gather.{gather}
-use Rattle.lookup.specs.Lookup.{is_past, of_part, entry_at, transports_of, merged, seen_entries}
+use Rattle.lookup.specs.Lookup.{of_part}
 use Rattle.lookup.specs.LookupLaws.{reach_here, reach-end}
-use Rattle.lookup.specs.TransportLaws.{own-few, merged-none, merged-yes, merged-no, merged-done}
+use Rattle.lookup.specs.TransportLaws.{own-few, merged-none, merged-done}
+use Rattle.lookup.proofs.TransportLaws.{merged-yes, merged-no}
 use Rattle.lookup.proofs.transports.Goals as goal
 
 pub loop-k-init : goal.loop-k-init

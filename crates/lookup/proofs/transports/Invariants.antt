@@ -1,19 +1,12 @@
 -- `lookup::transports` meets its contract. Assumes nothing.
 use Prim.Native.Nat.{◌≤◌, ◌-◌, ◌+◌}
-use mathlib.Core.Path.{◌≡◌, sym, ◌∙◌}
-use native.Mathlib.Omega.{arith}
+use mathlib.Core.Path.{◌≡◌}
 use lib.ListN.{length}
-use borrow.Author.Rules.{rules}
 use Rattle.base.specs.Range.{count}
 use Rattle.base.specs.First.{first}
-use Rattle.base.specs.FirstLaws.{first-none, first_more}
 use Rattle.base.specs.declared.Place.TheVariants.{Nothing}
-use Rattle.profile.specs.Accepted.{few-records}
-use Rattle.profile.specs.RangeMore.{count-mono, count-lt}
 use Rattle.lookup.specs.Gather.{gather}
 use Rattle.lookup.specs.Lookup.{is_past, of_part, entry_at, transports_of, merged, seen_entries}
-use Rattle.lookup.specs.LookupLaws.{reach_here, reach-end}
-use Rattle.lookup.specs.TransportLaws.{own-few, merged-none, merged-yes, merged-no, merged-done}
 use Rattle.lookup.proofs.transports.Given as goal
 
 abbrev pub invariant-loop-k : goal.invariant-loop-k

@@ -1,6 +1,5 @@
 use Rattle.drivers.specs.Talk.{next}
 use Rattle.definition.specs.Muting.{keep_level}
-use borrow.Author.Rules.{rules}
 use Rattle.mutes.proofs.keep_level.Goals as goal
 
 pub hush-n-requires : goal.hush-n-requires
@@ -9,9 +8,12 @@ hush-n-requires c = let b = c in
 
 pub returns : goal.returns
 unfolding keep_level next
-returns c = record { messages_after = rw (
+returns c = record {
+  messages_after = rw (
     ← c.read-g.ensures,
     ← c.or_zero-level.ensures,
     ← c.kept_by.ensures,
     ← c.hush-n.ensures.levels_after,
-  ); hushed_bound_2 = c.hush-n.ensures.upper_bound }
+  );
+  hushed_bound_2 = c.hush-n.ensures.upper_bound;
+}

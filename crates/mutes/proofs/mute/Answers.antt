@@ -6,15 +6,17 @@ use Rattle.drivers.specs.Talk.{next}
 use Rattle.session.specs.SessionLaws.{targets-seen}
 use Rattle.mutes.specs.HeldLaws.{room-at}
 use Rattle.definition.specs.Muting.{mute}
-use borrow.Author.Rules.{rules}
 use Rattle.mutes.proofs.mute.Goals as goal
 
 pub returns-in_default : goal.returns-in_default
 unfolding mute
-returns-in_default c = record { messages_after = rw (
+returns-in_default c = record {
+  messages_after = rw (
     ← c.destination.ensures,
     c.in_default.is,
-  ); hushed_bound_2 = c.requires.hushed_bound }
+  );
+  hushed_bound_2 = c.requires.hushed_bound;
+}
 
 pub mute_at-m-requires : goal.mute_at-m-requires
 mute_at-m-requires c = let b = c in
@@ -27,10 +29,13 @@ returns c =
     let ts = m.new.targets in
     let ls = m.new.levels in
     let n : m.result.hushed ≤ 256 = m.ensures.hushed_bound_2 in
-    let l : length ls ≡ 256 = c.ls-2-1.given in record { messages_after = rw (
+    let l : length ls ≡ 256 = c.ls-2-1.given in record {
+      messages_after = rw (
         ← c.destination.ensures,
         c.in-To.is,
         ← m.ensures.messages_after,
         targets-seen m.result.hushed ts ls (omega arith),
         ← c.push_state-v.ensures,
-      ); hushed_bound_2 = n }
+      );
+      hushed_bound_2 = n;
+    }

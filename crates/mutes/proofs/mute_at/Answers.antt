@@ -1,21 +1,26 @@
 use lib.ListN.{take}
 use Rattle.mutes.specs.HeldLaws.{is-hushed, not-hushed, room-for}
-use borrow.Author.Rules.{rules}
 use Rattle.mutes.proofs.mute_at.Goals as goal
 
 pub returns-then-has_mute : goal.returns-then-has_mute
-returns-then-has_mute c = record { messages_after = rw (
+returns-then-has_mute c = record {
+  messages_after = rw (
     ← c.has_mute.ensures,
     c.if-has_mute.true,
     ← c.toggle-t.ensures,
-  ); hushed_bound_2 = c.requires.hushed_bound }
+  );
+  hushed_bound_2 = c.requires.hushed_bound;
+}
 
 pub hand_back-requires : goal.hand_back-requires
-hand_back-requires c = record { hushed_bound = c.requires.hushed_bound; before_value = rw (
+hand_back-requires c = record {
+  hushed_bound = c.requires.hushed_bound;
+  before_value = rw (
     ← c.kept_by.ensures,
     ← c.hushed_level.ensures,
     c.in-At.is,
-  ) }
+  );
+}
 
 pub zeroed-requires : goal.zeroed-requires
 zeroed-requires c =
@@ -26,21 +31,27 @@ zeroed-requires c =
 pub returns-in-At : goal.returns-in-At
 returns-in-At c =
     let l = c.hushed_level in
-    let e = is-hushed _ _ _ _ l.ensures c.in-At.is in record { messages_after = rw (
+    let e = is-hushed _ _ _ _ l.ensures c.in-At.is in record {
+      messages_after = rw (
         ← c.has_mute.ensures,
         c.if-has_mute.false,
         ← c.kept_by.ensures,
         e,
         ← c.hand_back.ensures.messages_after,
-      ); hushed_bound_2 = c.hand_back.ensures.hushed_bound_2 }
+      );
+      hushed_bound_2 = c.hand_back.ensures.hushed_bound_2;
+    }
 
 pub returns-in-Unknown : goal.returns-in-Unknown
 returns-in-Unknown c =
     let l = c.hushed_level in
-    let e = not-hushed _ _ _ l.ensures c.in-Unknown.is in record { messages_after = rw (
+    let e = not-hushed _ _ _ l.ensures c.in-Unknown.is in record {
+      messages_after = rw (
         ← c.has_mute.ensures,
         c.if-has_mute.false,
         ← c.kept_by.ensures,
         e,
         ← c.zeroed.ensures.messages_after,
-      ); hushed_bound_2 = c.zeroed.ensures.hushed_bound_2 }
+      );
+      hushed_bound_2 = c.zeroed.ensures.hushed_bound_2;
+    }

@@ -1,5 +1,4 @@
 use Rattle.mutes.proofs.Laws.{differs, same}
-use borrow.Author.Rules.{rules}
 use Rattle.mutes.proofs.set_mute.Goals as goal
 
 pub returns-then-g-muted : goal.returns-then-g-muted

@@ -1,6 +1,5 @@
 -- `profile::examine` meets its contract. Assumes nothing.
 use Rattle.profile.proofs.Lowest.{by_length, by_field, by-cause, by-limits, by-ends, by-none, passed, in_order, short}
-use borrow.Author.Rules.{rules}
 use Rattle.profile.proofs.examine.Goals as goal
 
 pub returns-then-not-size_ok : goal.returns-then-not-size_ok

@@ -1,10 +1,7 @@
-use Prim.Native.Nat.{◌≤◌, ◌-◌}
-use mathlib.Core.Path.{◌≡◌, sym, ◌∙◌}
+use mathlib.Core.Path.{sym, ◌∙◌}
 use native.Mathlib.Omega.{arith}
-use Rattle.base.specs.declared.Place.TheVariants.{Nothing}
-use Rattle.base.specs.First.{first}
 use Rattle.base.specs.FirstLaws.{first-none, first_more, first_done, first-hit}
-use Rattle.protocol.specs.Protocol.{is_of_base, base_of}
+use Rattle.protocol.specs.Protocol.{base_of}
 use borrow.Author.Rules.{rules}
 use Rattle.protocol.proofs.base_of.Goals as goal
 

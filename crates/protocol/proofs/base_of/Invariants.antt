@@ -1,11 +1,8 @@
 use Prim.Native.Nat.{◌≤◌, ◌-◌}
-use mathlib.Core.Path.{◌≡◌, sym, ◌∙◌}
-use native.Mathlib.Omega.{arith}
+use mathlib.Core.Path.{◌≡◌}
 use Rattle.base.specs.declared.Place.TheVariants.{Nothing}
 use Rattle.base.specs.First.{first}
-use Rattle.base.specs.FirstLaws.{first-none, first_more, first_done, first-hit}
-use Rattle.protocol.specs.Protocol.{is_of_base, base_of}
-use borrow.Author.Rules.{rules}
+use Rattle.protocol.specs.Protocol.{is_of_base}
 use Rattle.protocol.proofs.base_of.Given as goal
 
 abbrev pub invariant-loop-k : goal.invariant-loop-k

@@ -1,6 +1,5 @@
 use mathlib.Core.Path.{sym}
 use lib.ListN.{get_or-eq_default}
-use borrow.Author.Rules.{rules}
 use Rattle.protocol.proofs.byte_of.Goals as goal
 
 pub returns-else-k-msg : goal.returns-else-k-msg

@@ -1,6 +1,5 @@
 use native.Mathlib.Omega.{arith}
 use Rattle.protocol.proofs.Laws.{base-low}
-use borrow.Author.Rules.{rules}
 use Rattle.protocol.proofs.is_of_base.Goals as goal
 
 pub overflow_add-result : goal.overflow_add-result

@@ -1,12 +1,8 @@
 use Prim.Native.Nat.{◌≤◌, ◌-◌}
 use mathlib.Core.Path.{◌≡◌}
-use native.Mathlib.Omega.{arith}
-use borrow.Author.Tests.{eq-eqb, ne_eqb}
 use Rattle.base.specs.declared.Place.TheVariants.{Nothing}
 use Rattle.base.specs.First.{first}
-use Rattle.base.specs.FirstLaws.{first-none, first_more, first_done, first-hit}
-use Rattle.protocol.specs.Protocol.{is_named, named_of}
-use borrow.Author.Rules.{rules}
+use Rattle.protocol.specs.Protocol.{is_named}
 use Rattle.protocol.proofs.named_of.Given as goal
 
 abbrev pub invariant-loop-k : goal.invariant-loop-k

@@ -1,6 +1,5 @@
 use Rattle.protocol.specs.Protocol.{note_of}
 use borrow.Author.Tests.{lt-ltb, le-ltb}
-use borrow.Author.Rules.{rules}
 use Rattle.protocol.proofs.note_of.Goals as goal
 
 pub returns-then-kind-lt4 : goal.returns-then-kind-lt4

@@ -1,6 +1,5 @@
 use Rattle.protocol.specs.Protocol.{transport_note}
 use borrow.Author.Tests.{lt-ltb, le-ltb}
-use borrow.Author.Rules.{rules}
 use Rattle.protocol.proofs.transport_note.Goals as goal
 
 pub returns-then-kind-lt4 : goal.returns-then-kind-lt4

@@ -7,7 +7,6 @@ use lib.Dec.{lit<}
 use mir.Syntax.{w32}
 use mir.Val.{SFits, to_z}
 use mir.ValLaws.{to_z_pos, to_z-of_z}
-use borrow.Author.Rules.{rules}
 use borrow.Author.Tests.{lt-ltb, le-ltb}
 use Rattle.protocol.proofs.turned.Goals as goal
 

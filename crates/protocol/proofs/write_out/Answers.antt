@@ -1,7 +1,6 @@
 use native.Mathlib.Omega.{arith}
 use lib.ListN.{length-set}
 use Rattle.protocol.proofs.Laws.{at_front_lem}
-use borrow.Author.Rules.{rules}
 use Rattle.protocol.proofs.write_out.Goals as goal
 
 pub bounds-part-1 : goal.bounds-part-1

@@ -1,4 +1,3 @@
-use borrow.Author.Rules.{rules}
 use Rattle.protocol.proofs.write_position.Goals as goal
 
 pub returns : goal.returns

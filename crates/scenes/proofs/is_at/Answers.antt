@@ -1,5 +1,4 @@
 use Rattle.scenes.proofs.Laws.{at_place}
-use borrow.Author.Rules.{rules}
 use Rattle.scenes.proofs.is_at.Goals as goal
 
 pub returns-in-At : goal.returns-in-At

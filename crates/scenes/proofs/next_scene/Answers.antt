@@ -1,5 +1,4 @@
 use Rattle.scenes.proofs.Laws.{one_on, right_end, left_end, one-back, back-to-last}
-use borrow.Author.Rules.{rules}
 use Rattle.scenes.proofs.next_scene.Goals as goal
 
 pub returns-then-s-last : goal.returns-then-s-last

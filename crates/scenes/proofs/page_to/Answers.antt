@@ -1,5 +1,4 @@
 use Rattle.scenes.proofs.Laws.{at-end, cannot-load, reaches, same-note, same_line}
-use borrow.Author.Rules.{rules}
 use Rattle.scenes.proofs.page_to.Goals as goal
 
 pub returns-then-is_at : goal.returns-then-is_at

@@ -1,6 +1,5 @@
 use mathlib.Core.Path.{◌∙◌}
 use Rattle.scenes.proofs.Laws.{no-scene, loads-scene, by-flash, same-note, same_line}
-use borrow.Author.Rules.{rules}
 use Rattle.scenes.proofs.scene.Goals as goal
 
 pub returns-then-not-g : goal.returns-then-not-g

@@ -1,5 +1,4 @@
 use Rattle.scenes.proofs.Laws.{no-scenes, steps, same-note, same_line}
-use borrow.Author.Rules.{rules}
 use Rattle.scenes.proofs.step_scene.Goals as goal
 
 pub returns-then-count-eq0 : goal.returns-then-count-eq0

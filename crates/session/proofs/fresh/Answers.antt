@@ -1,5 +1,4 @@
 use Rattle.session.specs.Session.{fresh_session, no_marks, none_lit}
-use borrow.Author.Rules.{rules}
 use Rattle.session.proofs.fresh.Goals as goal
 
 pub returns : goal.returns

@@ -1,10 +1,8 @@
 use mathlib.Core.Path.{◌≡◌, sym}
-use mathlib.Core.Bool.{true}
-use Prim.Native.Nat.{◌-◌, ◌≤◌}
 use native.Mathlib.Omega.{arith}
 use native.Mathlib.Numerals.{add-one}
 use lib.Dec.{eqb}
-use lib.ListN.{length, take}
+use lib.ListN.{length}
 use Rattle.base.specs.Keyed.{no_twice}
 use Rattle.base.specs.KeyedLaws as laws
 use Rattle.shape.proofs.Laws.{done}

@@ -1,14 +1,9 @@
-use mathlib.Core.Path.{◌≡◌, sym}
+use mathlib.Core.Path.{◌≡◌}
 use mathlib.Core.Bool.{true}
 use Prim.Native.Nat.{◌-◌, ◌≤◌}
-use native.Mathlib.Omega.{arith}
-use native.Mathlib.Numerals.{add-one}
 use lib.Dec.{eqb}
-use lib.ListN.{length, take}
+use lib.ListN.{take}
 use Rattle.base.specs.Keyed.{no_twice}
-use Rattle.base.specs.KeyedLaws as laws
-use Rattle.shape.proofs.Laws.{done}
-use borrow.Author.Rules.{rules}
 use Rattle.shape.proofs.no_target_twice.Given as goal
 
 abbrev pub invariant-loop-i : goal.invariant-loop-i

@@ -3,7 +3,6 @@ use mathlib.Core.Path.{◌≡◌}
 use lib.ListN.{length}
 use Rattle.base.specs.KeyedLaws.{long}
 use Rattle.shape.specs.PartsLaws.{own-parts}
-use borrow.Author.Rules.{rules}
 use Rattle.shape.proofs.shaped.Goals as goal
 
 pub returns : goal.returns

@@ -1,13 +1,6 @@
-use mathlib.Core.Path.{◌≡◌}
 use Prim.Native.Nat.{◌-◌, ◌≤◌}
-use native.Mathlib.Omega.{arith}
-use lib.ListN.{length}
-use borrow.Author.Tests.{le-leb, lt-leb, eq-eqb, ne_eqb}
-use Rattle.base.specs.KeyedLaws as laws
 use Rattle.session.specs.Session.{no_move, low_channel, same_channel}
-use Rattle.definition.specs.Shape.{shaped_line}
-use Rattle.shape.proofs.Laws.{Fine, New, fine-none, new_none, new-more, fine_more, too_many, unfit, twice, all-fine}
-use borrow.Author.Rules.{rules}
+use Rattle.shape.proofs.Laws.{Fine, New}
 use Rattle.shape.proofs.shaped_line.Given as goal
 
 abbrev pub invariant-loop-j : goal.invariant-loop-j

@@ -3,7 +3,6 @@ use mathlib.Core.Path.{sym, ◌∙◌}
 use borrow.Author.Tests.{not-true, not-false}
 use Rattle.base.specs.Range.{every}
 use Rattle.definition.specs.Shape.{well_shaped}
-use borrow.Author.Rules.{rules}
 use Rattle.shape.proofs.shaped_parts.Goals as goal
 
 pub returns-then-not-has_bank : goal.returns-then-not-has_bank

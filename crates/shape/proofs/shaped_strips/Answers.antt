@@ -1,5 +1,4 @@
 use mathlib.Core.Path.{◌≡◌}
-use Prim.Native.Nat.{◌-◌, ◌≤◌}
 use native.Mathlib.Omega.{arith}
 use lib.ListN.{length}
 use borrow.Author.Tests.{not-true, not-false, eq-eqb, ne_eqb}
@@ -7,7 +6,7 @@ use Rattle.base.specs.Range.{every}
 use Rattle.base.specs.KeyedLaws as laws
 use Rattle.session.specs.Session.{good_strip, same_number, no_strip}
 use Rattle.definition.specs.Shape.{shaped_strips}
-use Rattle.shape.proofs.Laws.{Fine, New, fine-none, new_none, new-more, fine_more, too_many, unfit, twice, all-fine}
+use Rattle.shape.proofs.Laws.{fine-none, new_none, new-more, fine_more, too_many, unfit, twice, all-fine}
 use borrow.Author.Rules.{rules}
 use Rattle.shape.proofs.shaped_strips.Goals as goal
 

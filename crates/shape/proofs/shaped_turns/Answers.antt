@@ -5,7 +5,6 @@ use Rattle.base.specs.KeyedLaws as laws
 use Rattle.base.specs.Range.{every}
 use Rattle.definition.specs.Shape.{shaped_turns}
 use Rattle.shape.proofs.Laws.{sums-tested}
-use borrow.Author.Rules.{rules}
 use Rattle.shape.proofs.shaped_turns.Goals as goal
 
 pub returns-then-n-gt136 : goal.returns-then-n-gt136

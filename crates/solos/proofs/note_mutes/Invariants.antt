@@ -1,15 +1,10 @@
-use Prim.Native.Nat.{◌≤◌, ◌<◌, ◌-◌}
+use Prim.Native.Nat.{◌≤◌, ◌-◌}
 use mathlib.Core.Path.{◌≡◌}
-use native.Mathlib.Omega.{arith}
 use lib.ListN.{length, take}
-use borrow.Author.Tests.{eq-eqb, ne_eqb}
-use Rattle.base.specs.KeyedLaws as laws
 use Rattle.drivers.specs.Talk.{got}
 use Rattle.drivers.specs.Shown.{shown}
 use Rattle.definition.specs.Muting.{note_mutes}
 use Rattle.solos.specs.Peers.{seen_peers}
-use Rattle.solos.proofs.Laws.{numbered, none-noted, one-noted, all_noted}
-use borrow.Author.Rules.{rules}
 use Rattle.solos.proofs.note_mutes.Given as goal
 
 abbrev pub invariant-loop-n : goal.invariant-loop-n

@@ -1,5 +1,4 @@
 use Rattle.drivers.specs.Talk.{next}
-use borrow.Author.Rules.{rules}
 use Rattle.solos.proofs.note_peer.Goals as goal
 
 pub returns : goal.returns

@@ -8,7 +8,6 @@ use lib.ListN.{length}
 use Rattle.session.specs.SessionLaws.{targets-seen}
 use Rattle.definition.specs.Muting.{solo}
 use Rattle.solos.proofs.Laws.{solo-over, room-over}
-use borrow.Author.Rules.{rules}
 use Rattle.solos.proofs.solo.Goals as goal
 
 pub returns-in_default : goal.returns-in_default
@@ -34,9 +33,12 @@ returns c = let a = c.args in
     let ls = m.new.levels in
     let n : m.result.hushed ≤ 256 = m.ensures.hushed_bound_2 in
     let l : length ls ≡ 256 = c.ls-2-1.given in
-    let e = targets-seen m.result.hushed ts ls (omega arith) in record { messages_after = rw (
+    let e = targets-seen m.result.hushed ts ls (omega arith) in record {
+      messages_after = rw (
         ← c.destination.ensures,
         c.in-To.is,
       )
           (solo-over _ _ p.result p.ensures (eqb a.lamps.soloed a.fader) a.fader a.lamps (hushed_up_to a.hushed a.targets.now a.levels.now)
-          (shown a.answers.now a.io a.calls.now a.messages.now) _ _ _ _ m.ensures.messages_after _ e c.push_state-v.ensures); hushed_bound_2 = n }
+          (shown a.answers.now a.io a.calls.now a.messages.now) _ _ _ _ m.ensures.messages_after _ e c.push_state-v.ensures);
+      hushed_bound_2 = n;
+    }

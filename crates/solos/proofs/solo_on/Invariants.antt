@@ -1,15 +1,11 @@
-use Prim.Native.Nat.{◌≤◌, ◌<◌, ◌-◌}
+use Prim.Native.Nat.{◌≤◌, ◌-◌}
 use mathlib.Core.Path.{◌≡◌}
-use native.Mathlib.Omega.{arith}
 use lib.ListN.{length}
-use Rattle.base.specs.KeyedLaws as laws
 use Rattle.drivers.specs.Talk.{got}
 use Rattle.drivers.specs.Shown.{shown}
 use Rattle.session.specs.Session.{hushed_up_to}
 use Rattle.definition.specs.Muting.{solo_on}
 use Rattle.solos.specs.Peers.{seen_peers}
-use Rattle.solos.proofs.Laws.{numbered, none-on, one_on, all-on, room-on}
-use borrow.Author.Rules.{rules}
 use Rattle.solos.proofs.solo_on.Given as goal
 
 abbrev pub invariant-loop-n : goal.invariant-loop-n

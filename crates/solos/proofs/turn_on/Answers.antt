@@ -4,7 +4,6 @@ use native.Mathlib.Omega.{arith}
 use lib.ListN.{length}
 use Rattle.drivers.specs.Talk.{next}
 use Rattle.session.specs.SessionLaws.{targets-seen}
-use borrow.Author.Rules.{rules}
 use Rattle.solos.proofs.turn_on.Goals as goal
 
 pub returns : goal.returns
@@ -13,9 +12,12 @@ returns c = let b = c in
     let ts = b.args.targets.now in
     let ls = b.args.levels.now in
     let n : b.args.hushed ≤ 256 = b.requires.hushed_bound in
-    let l : length ls ≡ 256 = c.ls-2-1.given in record { messages_after = rw (
+    let l : length ls ≡ 256 = c.ls-2-1.given in record {
+      messages_after = rw (
         targets-seen b.args.hushed ts ls (omega arith),
         ← c.note_mutes-b.ensures,
         ← c.solo_on-m.ensures.messages_after,
         ← c.solo_to-l.ensures,
-      ); hushed_bound_2 = c.solo_on-m.ensures.hushed_bound_2 }
+      );
+      hushed_bound_2 = c.solo_on-m.ensures.hushed_bound_2;
+    }

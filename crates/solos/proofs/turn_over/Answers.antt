@@ -1,6 +1,5 @@
 use borrow.Author.Tests.{eq-eqb, ne_eqb}
 use Rattle.solos.proofs.Laws.{room-another}
-use borrow.Author.Rules.{rules}
 use Rattle.solos.proofs.turn_over.Goals as goal
 
 pub returns-then-lamps-fader : goal.returns-then-lamps-fader

@@ -5,16 +5,15 @@ use native.Mathlib.Omega.{arith}
 use lib.ListN.{length, length-set}
 use Rattle.drivers.specs.Shown.{shown}
 use Rattle.transport.proofs.Laws.{placed, meet-known, meet-new}
-use borrow.Author.Rules.{rules}
 use Rattle.transport.proofs.meet.Goals as goal
 
 -- `transport::meet` meets its contract. Assumes nothing.
-pub returns-then-k-count : goal.returns-then-k-count
-returns-then-k-count c = let b = c in
+pub returns-then-known : goal.returns-then-known
+returns-then-known c = let b = c in
     let a = b.args in
     let l : length a.players.now ≡ 32 = c.ps-1.given.0.1 in
     let t = shown a.answers.now a.io a.calls.now a.messages.now in
-    record { messages_after = meet-known a.c a.players.now a.count a.k b.requires.k_value (omega (arith, b.requires.count_bound)) t c.if-k-count.true; k_lt_count = (c.if-k-count.true, omega arith, l) }
+    record { messages_after = meet-known a.c a.players.now a.count a.k b.requires.k_value (omega (arith, b.requires.count_bound)) t c.if-known.true; k_lt_count = (c.if-known.true, omega arith, l) }
 
 -- the place behind the others is within the array
 inside : (c : goal.After-player) → c.args.k < 32
@@ -36,7 +35,7 @@ pub returns : goal.returns
 returns c = let b = c in
     let a = b.args in
     let g = c.playing-g in
-    let h = c.if-k-count.false in
+    let h = c.if-known.false in
     let l : length a.players.now ≡ 32 = c.ps-1.given.0.1 in
     let m : a.count < length a.players.now = omega (arith, b.requires.count_bound) in
     let t = shown a.answers.now a.io a.calls.now a.messages.now in

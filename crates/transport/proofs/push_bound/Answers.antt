@@ -3,7 +3,6 @@ use native.Mathlib.Omega.{arith}
 use Rattle.drivers.specs.Shown.{shown}
 use Rattle.transport.specs.Known.{seen_players}
 use Rattle.transport.proofs.Laws.{lit-kth}
-use borrow.Author.Rules.{rules}
 use Rattle.transport.proofs.push_bound.Goals as goal
 
 pub returns-in_default : goal.returns-in_default

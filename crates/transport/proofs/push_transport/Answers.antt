@@ -1,16 +1,14 @@
 -- `transport::push_transport` meets its contract. Assumes nothing.
 use mathlib.Core.Path.{◌≡◌, sym, ◌∙◌}
-use mathlib.Core.Logic.{⊎_elim}
-use Prim.Native.Nat.{◌-◌, ◌≤◌, ◌<◌}
+use Prim.Native.Nat.{◌≤◌, ◌<◌}
 use native.Mathlib.Omega.{arith}
 use lib.ListN.{length}
-use Rattle.base.specs.Keyed.{at}
 use Rattle.lookup.specs.Lookup.{seen_entries}
 use Rattle.lookup.specs.SeenLaws.{none_yet, one_more, match, no-match}
 use Rattle.drivers.specs.Talk.{got}
 use Rattle.drivers.specs.Shown.{shown}
 use Rattle.definition.specs.Lamps.{is_player}
-use Rattle.transport.specs.Known.{player_of, seen_players, lit_up_to}
+use Rattle.transport.specs.Known.{player_of, seen_players}
 use Rattle.transport.proofs.Laws.{lit-none, how-many, lit_next, lit-all}
 use borrow.Author.Rules.{rules}
 use Rattle.transport.proofs.push_transport.Goals as goal
@@ -51,10 +49,13 @@ push_bound-m-requires c = let p = c.players in
     let xs = o.known in
     let n = o.there in
     let h : n < 32 = omega (arith, o.invariant.1, f.ensures.0) in
-    let l : n ≤ length xs = omega (arith, o.invariant.2) in record { count_bound = h; k_value = elim c.players-test.branch [
-          else-players-test w ↦ no-match player_of (is_player d) xs p.k n (omega arith) (omega (arith, w.players-test.false)) p.invariant.1
-          | then-players-test+then-is_player w ↦ match player_of (is_player d) xs p.k n (omega (arith, w.players-test.true)) l p.invariant.1 (sym w.is_player.ensures ∙ w.if-is_player.true)
-          ] }
+    let l : n ≤ length xs = omega (arith, o.invariant.2) in record {
+      count_bound = h;
+      k_value = elim c.players-test.branch [
+        | else-players-test w ↦ no-match player_of (is_player d) xs p.k n (omega arith) (omega (arith, w.players-test.false)) p.invariant.1
+        | then-players-test+then-is_player w ↦ match player_of (is_player d) xs p.k n (omega (arith, w.players-test.true)) l p.invariant.1 (sym w.is_player.ensures ∙ w.if-is_player.true)
+      ];
+    }
 
 pub loop-i-preserved : goal.loop-i-preserved
 loop-i-preserved c = let m = c.push_bound-m in

@@ -1,18 +1,13 @@
 -- `transport::push_transport` meets its contract. Assumes nothing.
-use mathlib.Core.Path.{◌≡◌, sym, ◌∙◌}
-use mathlib.Core.Logic.{⊎_elim}
-use Prim.Native.Nat.{◌-◌, ◌≤◌, ◌<◌}
-use native.Mathlib.Omega.{arith}
+use mathlib.Core.Path.{◌≡◌}
+use Prim.Native.Nat.{◌-◌, ◌≤◌}
 use lib.ListN.{length}
 use Rattle.base.specs.Keyed.{at}
 use Rattle.lookup.specs.Lookup.{seen_entries}
-use Rattle.lookup.specs.SeenLaws.{none_yet, one_more, match, no-match}
 use Rattle.drivers.specs.Talk.{got}
 use Rattle.drivers.specs.Shown.{shown}
 use Rattle.definition.specs.Lamps.{is_player}
-use Rattle.transport.specs.Known.{player_of, seen_players, lit_up_to}
-use Rattle.transport.proofs.Laws.{lit-none, how-many, lit_next, lit-all}
-use borrow.Author.Rules.{rules}
+use Rattle.transport.specs.Known.{seen_players, lit_up_to}
 use Rattle.transport.proofs.push_transport.Given as goal
 
 abbrev pub invariant-players : goal.invariant-players

@@ -1,6 +1,5 @@
 use mathlib.Core.Path.{refl}
 use Rattle.bridge.proofs.ActsLaws.{leaves-still, presses}
-use borrow.Author.Rules.{rules}
 use Rattle.bridge.proofs.acts.on_button.Goals as goal
 
 pub returns : goal.returns

@@ -1,5 +1,4 @@
 use Rattle.bridge.proofs.ActsLaws.{still-hushed, still-leaves, flashes}
-use borrow.Author.Rules.{rules}
 use Rattle.bridge.proofs.acts.on_flash_bank.Goals as goal
 
 pub returns : goal.returns

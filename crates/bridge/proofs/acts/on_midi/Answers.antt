@@ -1,6 +1,5 @@
 use mathlib.Core.Path.{refl}
 use Rattle.bridge.proofs.ActsLaws.{midi-press, bank-of, room_of, no-hand}
-use borrow.Author.Rules.{rules}
 use Rattle.bridge.proofs.acts.on_midi.Goals as goal
 
 pub on_button-requires : goal.on_button-requires

@@ -1,5 +1,4 @@
 use Rattle.bridge.proofs.ActsLaws.{still-hushed, still-leaves, pushes-transport}
-use borrow.Author.Rules.{rules}
 use Rattle.bridge.proofs.acts.on_push_transport.Goals as goal
 
 pub returns : goal.returns

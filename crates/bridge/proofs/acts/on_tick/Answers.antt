@@ -1,6 +1,5 @@
 use mathlib.Core.Path.{refl}
 use Rattle.bridge.proofs.ActsLaws.{leaves-again, ticks}
-use borrow.Author.Rules.{rules}
 use Rattle.bridge.proofs.acts.on_tick.Goals as goal
 
 pub returns : goal.returns

@@ -1,7 +1,6 @@
 use mathlib.Core.Path.{sym, ap, ◌∙◌}
 use Rattle.bridge.specs.Which.{runs}
 use Rattle.bridge.proofs.ActsLaws.{bank-midi, room-midi, runs-midi, runs-tick, runs-state, runs-transport, runs-flash}
-use borrow.Author.Rules.{rules}
 use Rattle.bridge.proofs.acts.run.Goals as goal
 
 pub on_midi-requires : goal.on_midi-requires
@@ -17,29 +16,44 @@ on_flash_bank-requires c = let start = c in
     record { count_bound = start.requires.count_bound; hushed_bound = start.requires.hushed_bound; flash_value = start.requires.flash_value }
 
 pub returns-in-Midi : goal.returns-in-Midi
-returns-in-Midi c = let start = c in record { runs_any = runs-midi _ _ _ _ _ _ _ _ start.args.e.what _ _ _ _ _
-      c.in-Midi.is c.on_midi.ensures.runs; leaves = c.on_midi.ensures.leaves }
+returns-in-Midi c = let start = c in record {
+  runs_any = runs-midi _ _ _ _ _ _ _ _ start.args.e.what _ _ _ _ _
+      c.in-Midi.is c.on_midi.ensures.runs;
+  leaves = c.on_midi.ensures.leaves;
+}
 
 pub returns-in-Tick : goal.returns-in-Tick
 returns-in-Tick c = let start = c in
-    let long = c.ls-2-1.given in record { runs_any = runs-tick _ _ _ _ _ _ _ _ start.args.e.what _ _ _ _ _
+    let long = c.ls-2-1.given in record {
+      runs_any = runs-tick _ _ _ _ _ _ _ _ start.args.e.what _ _ _ _ _
           start.requires.hushed_bound long c.on_tick.ensures.hushed_value start.requires.bank_value c.in-Tick.is
-          c.on_tick.ensures.ticks; leaves = c.on_tick.ensures.leaves }
+          c.on_tick.ensures.ticks;
+      leaves = c.on_tick.ensures.leaves;
+    }
 
 pub returns-in-PushState : goal.returns-in-PushState
 returns-in-PushState c = let start = c in
-    let long = c.ls-2-1.given in record { runs_any = runs-state _ _ _ _ _ _ _ _ start.args.e.what _ _ _ _ _
+    let long = c.ls-2-1.given in record {
+      runs_any = runs-state _ _ _ _ _ _ _ _ start.args.e.what _ _ _ _ _
           start.requires.hushed_bound long c.on_push_state.ensures.hushed_value start.requires.bank_value c.in-PushState.is
-          c.on_push_state.ensures.pushes; leaves = c.on_push_state.ensures.leaves }
+          c.on_push_state.ensures.pushes;
+      leaves = c.on_push_state.ensures.leaves;
+    }
 
 pub returns-in-PushTransport : goal.returns-in-PushTransport
 returns-in-PushTransport c = let start = c in
-    let long = c.ls-2-1.given in record { runs_any = runs-transport _ _ _ _ _ _ _ _ start.args.e.what _ _ _ _ _
+    let long = c.ls-2-1.given in record {
+      runs_any = runs-transport _ _ _ _ _ _ _ _ start.args.e.what _ _ _ _ _
           start.requires.hushed_bound long c.on_push_transport.ensures.hushed_value start.requires.bank_value c.in-PushTransport.is
-          c.on_push_transport.ensures.pushes; leaves = c.on_push_transport.ensures.leaves }
+          c.on_push_transport.ensures.pushes;
+      leaves = c.on_push_transport.ensures.leaves;
+    }
 
 pub returns-in-FlashBank : goal.returns-in-FlashBank
 returns-in-FlashBank c = let start = c in
-    let long = c.ls-2-1.given in record { runs_any = runs-flash _ _ _ _ _ _ _ _ start.args.e.what _ _ _ _ _
+    let long = c.ls-2-1.given in record {
+      runs_any = runs-flash _ _ _ _ _ _ _ _ start.args.e.what _ _ _ _ _
           start.requires.hushed_bound long c.on_flash_bank.ensures.hushed_value start.requires.bank_value c.in-FlashBank.is
-          c.on_flash_bank.ensures.runs_still; leaves = c.on_flash_bank.ensures.leaves }
+          c.on_flash_bank.ensures.runs_still;
+      leaves = c.on_flash_bank.ensures.leaves;
+    }

@@ -1,6 +1,5 @@
 use mathlib.Core.Path.{◌∙◌}
 use Rattle.bridge.proofs.PressLaws.{adds-muted, adds-soloed, adds_none}
-use borrow.Author.Rules.{rules}
 use Rattle.bridge.proofs.buttons.added_by.Goals as goal
 
 pub returns-in-2 : goal.returns-in-2

@@ -1,6 +1,5 @@
 use mathlib.Core.Path.{◌∙◌}
 use Rattle.bridge.proofs.PressLaws.{bank-right, bank-left, bank-selected, bank-stays}
-use borrow.Author.Rules.{rules}
 use Rattle.bridge.proofs.buttons.bank_after.Goals as goal
 
 pub returns-in-5 : goal.returns-in-5

@@ -1,6 +1,5 @@
-use mathlib.Core.Logic.{⊎_elim, inl, inr}
+use mathlib.Core.Logic.{inl, inr}
 use Rattle.bridge.proofs.PressLaws.{low-bank, hush-room, walk-to, other-kind, pages, walks, others, hushes}
-use borrow.Author.Rules.{rules}
 use native.Mathlib.Omega.{arith}
 use Rattle.bridge.proofs.buttons.button.Goals.{then-kind-lt6, else-kind-lt6+else-kind-lt8+then-kind-lt10, in_default-via-then-kind-lt1, in_default-via-else-kind-lt1+else-kind-lt3+then-kind-lt4, in_default-via-else-kind-lt1+else-kind-lt3+else-kind-lt4+else-kind-lt6+else-kind-lt8+else-kind-lt10}
 use Rattle.bridge.proofs.buttons.button.Goals as goal

@@ -1,5 +1,4 @@
 use Rattle.bridge.proofs.PressLaws.{at-channel, no-channel}
-use borrow.Author.Rules.{rules}
 use Rattle.bridge.proofs.buttons.channel_of.Goals as goal
 
 pub returns-in-At : goal.returns-in-At

@@ -6,7 +6,6 @@ use Rattle.drivers.specs.Shown.{shown}
 use Rattle.session.specs.Session.{hushed_up_to}
 use Rattle.rig.specs.Seen.{rig_in}
 use Rattle.bridge.proofs.ButtonsLaws.{soloes, mutes, solo-fits, room-for-mute}
-use borrow.Author.Rules.{rules}
 use Rattle.bridge.proofs.buttons.hush.Goals as goal
 
 pub solo-m-requires : goal.solo-m-requires

@@ -1,6 +1,5 @@
 use mathlib.Core.Path.{sym, ◌∙◌}
 use Rattle.bridge.proofs.PressLaws.{bank-selected, other-rec, other-select, other-command}
-use borrow.Author.Rules.{rules}
 use Rattle.bridge.proofs.buttons.other_button.Goals as goal
 
 pub rec-requires : goal.rec-requires

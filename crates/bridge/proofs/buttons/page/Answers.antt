@@ -1,7 +1,6 @@
 use lib.ListN.{take}
 use Rattle.drivers.specs.Shown.{shown}
 use Rattle.bridge.proofs.ButtonsLaws.{pages}
-use borrow.Author.Rules.{rules}
 use Rattle.bridge.proofs.buttons.page.Goals as goal
 
 pub returns : goal.returns

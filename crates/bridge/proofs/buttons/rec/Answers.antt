@@ -2,7 +2,6 @@ use native.Mathlib.Omega.{arith}
 use lib.ListN.{take}
 use Rattle.drivers.specs.Shown.{shown}
 use Rattle.bridge.proofs.ButtonsLaws.{rec-scene, rec-command}
-use borrow.Author.Rules.{rules}
 use Rattle.bridge.proofs.buttons.rec.Goals as goal
 
 pub scene-p-requires : goal.scene-p-requires

@@ -2,7 +2,6 @@ use mathlib.Core.Path.{refl}
 use lib.ListN.{take}
 use Rattle.drivers.specs.Shown.{shown}
 use Rattle.bridge.proofs.ButtonsLaws.{select-command, selects-none, selects-bank}
-use borrow.Author.Rules.{rules}
 use Rattle.bridge.proofs.buttons.select.Goals as goal
 
 pub returns-then-not-select_is_bank : goal.returns-then-not-select_is_bank

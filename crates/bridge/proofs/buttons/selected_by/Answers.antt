@@ -1,5 +1,4 @@
 use Rattle.bridge.specs.Presses.{selected_by}
-use borrow.Author.Rules.{rules}
 use Rattle.bridge.proofs.buttons.selected_by.Goals as goal
 
 pub returns-then-select_is_bank-has_bank : goal.returns-then-select_is_bank-has_bank

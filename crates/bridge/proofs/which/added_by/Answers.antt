@@ -1,5 +1,4 @@
 use Rattle.bridge.proofs.PressLaws.{adds-by, adds-nothing}
-use borrow.Author.Rules.{rules}
 use Rattle.bridge.proofs.which.added_by.Goals as goal
 
 pub returns-in-Of : goal.returns-in-Of

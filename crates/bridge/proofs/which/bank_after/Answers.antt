@@ -1,5 +1,4 @@
 use Rattle.bridge.proofs.PressLaws.{bank-by}
-use borrow.Author.Rules.{rules}
 use Rattle.bridge.proofs.which.bank_after.Goals as goal
 
 pub returns-in-Of : goal.returns-in-Of

@@ -1,5 +1,4 @@
 use Rattle.bridge.proofs.PressLaws.{unheard}
-use borrow.Author.Rules.{rules}
 use Rattle.bridge.proofs.which.is_nothing.Goals as goal
 
 pub returns-in_default : goal.returns-in_default

@@ -1,5 +1,4 @@
 use Rattle.bridge.proofs.PressLaws.{unheard, no-press, a-press}
-use borrow.Author.Rules.{rules}
 use Rattle.bridge.proofs.which.press_of.Goals as goal
 
 pub returns-in_default : goal.returns-in_default

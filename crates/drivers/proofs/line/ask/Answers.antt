@@ -1,4 +1,3 @@
-use borrow.Author.Rules.{rules}
 use Rattle.drivers.proofs.line.ask.Goals as goal
 
 pub returns : goal.returns

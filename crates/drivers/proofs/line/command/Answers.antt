@@ -1,5 +1,4 @@
 use Rattle.drivers.specs.Talk.{command_of, next}
-use borrow.Author.Rules.{rules}
 use Rattle.drivers.proofs.line.command.Goals as goal
 
 pub returns : goal.returns

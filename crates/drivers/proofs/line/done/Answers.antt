@@ -1,6 +1,5 @@
 use Rattle.drivers.specs.Shown.{reply_in}
 use Rattle.drivers.specs.Talk.{use_done, next}
-use borrow.Author.Rules.{rules}
 use Rattle.drivers.proofs.line.done.Goals as goal
 
 pub returns : goal.returns

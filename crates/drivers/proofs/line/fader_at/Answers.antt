@@ -1,6 +1,5 @@
 use mathlib.Core.Path.{refl}
 use Rattle.drivers.proofs.Laws.{fader-there}
-use borrow.Author.Rules.{rules}
 use Rattle.drivers.proofs.line.fader_at.Goals as goal
 
 pub returns : goal.returns

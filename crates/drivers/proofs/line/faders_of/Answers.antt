@@ -1,6 +1,5 @@
 use Rattle.drivers.specs.Answers.{items_of}
-use lib.ListN.{length, take, drop, length-set}
-use Prim.Native.Nat.{◌-◌, ◌≤◌}
+use lib.ListN.{length-set}
 use mathlib.Core.Path.{◌≡◌, refl}
 use native.Mathlib.Omega.{arith}
 use Rattle.drivers.proofs.Laws.{fader-seen}

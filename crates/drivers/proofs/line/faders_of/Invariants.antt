@@ -1,9 +1,7 @@
 use Rattle.drivers.specs.Answers.{items_of}
-use lib.ListN.{length, take, drop, length-set}
+use lib.ListN.{length, take, drop}
 use Prim.Native.Nat.{◌-◌, ◌≤◌}
-use mathlib.Core.Path.{◌≡◌, refl}
-use native.Mathlib.Omega.{arith}
-use Rattle.drivers.proofs.Laws.{fader-seen}
+use mathlib.Core.Path.{◌≡◌}
 use Rattle.drivers.proofs.line.faders_of.Given as goal
 
 abbrev pub invariant-loop-i : goal.invariant-loop-i

@@ -1,6 +1,5 @@
 use mathlib.Core.Path.{refl}
 use Rattle.drivers.specs.Shown.{shown, calls_in, messages_in}
-use borrow.Author.Rules.{rules}
 use Rattle.drivers.proofs.line.fresh.Goals as goal
 
 pub returns : goal.returns

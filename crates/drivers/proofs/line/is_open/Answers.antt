@@ -1,6 +1,5 @@
 use Rattle.drivers.proofs.Laws.{past-closed}
 use Rattle.base.specs.KeyedLaws.{long}
-use borrow.Author.Rules.{rules}
 use Rattle.drivers.proofs.line.is_open.Goals as goal
 
 pub returns-then-driver-ge16 : goal.returns-then-driver-ge16

@@ -1,5 +1,4 @@
 use Rattle.drivers.specs.Answers.{item_count}
-use borrow.Author.Rules.{rules}
 use Rattle.drivers.proofs.line.items.Goals as goal
 
 pub returns-then-is_list : goal.returns-then-is_list

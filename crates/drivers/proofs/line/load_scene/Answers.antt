@@ -1,5 +1,4 @@
 use Rattle.drivers.specs.Talk.{load_of, next}
-use borrow.Author.Rules.{rules}
 use Rattle.drivers.proofs.line.load_scene.Goals as goal
 
 pub returns : goal.returns

@@ -1,8 +1,5 @@
-use mathlib.Core.List.{map}
-use Rattle.drivers.specs.Talk.{name_of}
 use Rattle.drivers.specs.Answers.{items_of}
-use lib.ListN.{length, take, drop, length-set}
-use Prim.Native.Nat.{◌-◌, ◌≤◌}
+use lib.ListN.{length-set}
 use mathlib.Core.Path.{◌≡◌, refl}
 use native.Mathlib.Omega.{arith}
 use Rattle.drivers.proofs.Laws.{name-seen}

@@ -1,11 +1,9 @@
 use mathlib.Core.List.{map}
 use Rattle.drivers.specs.Talk.{name_of}
 use Rattle.drivers.specs.Answers.{items_of}
-use lib.ListN.{length, take, drop, length-set}
+use lib.ListN.{length, take, drop}
 use Prim.Native.Nat.{◌-◌, ◌≤◌}
-use mathlib.Core.Path.{◌≡◌, refl}
-use native.Mathlib.Omega.{arith}
-use Rattle.drivers.proofs.Laws.{name-seen}
+use mathlib.Core.Path.{◌≡◌}
 use Rattle.drivers.proofs.line.names_of.Given as goal
 
 abbrev pub invariant-loop-i : goal.invariant-loop-i

@@ -1,7 +1,6 @@
 use Rattle.drivers.specs.Shown.{reply_in}
 use Rattle.drivers.proofs.Laws.{is_open_lem, opens}
 use Rattle.drivers.specs.Talk.{open_for, next}
-use borrow.Author.Rules.{rules}
 use Rattle.drivers.proofs.line.open_for.Goals as goal
 
 pub returns-then-is_open : goal.returns-then-is_open

@@ -1,6 +1,5 @@
 use Rattle.drivers.proofs.Laws.{past_same}
 use Rattle.base.specs.KeyedLaws.{long}
-use borrow.Author.Rules.{rules}
 use Rattle.drivers.proofs.line.opening.Goals as goal
 
 pub returns-then-driver-ge16 : goal.returns-then-driver-ge16

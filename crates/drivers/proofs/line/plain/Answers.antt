@@ -1,5 +1,4 @@
 use Rattle.drivers.specs.Talk.{plain_call}
-use borrow.Author.Rules.{rules}
 use Rattle.drivers.proofs.line.plain.Goals as goal
 
 pub returns : goal.returns

@@ -1,5 +1,4 @@
 use Rattle.drivers.proofs.Laws.{send-stopped, send-full, send-made}
-use borrow.Author.Rules.{rules}
 use Rattle.drivers.proofs.line.position_in.Goals as goal
 
 pub returns-then-io-ne-GOING : goal.returns-then-io-ne-GOING

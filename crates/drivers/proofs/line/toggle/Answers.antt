@@ -1,5 +1,4 @@
 use Rattle.drivers.specs.Talk.{toggle_of, next}
-use borrow.Author.Rules.{rules}
 use Rattle.drivers.proofs.line.toggle.Goals as goal
 
 pub returns : goal.returns

@@ -2,7 +2,6 @@ use mathlib.Core.Path.{ap}
 use Rattle.drivers.proofs.Laws.{stores, stores-length}
 use lib.ListN.{length-set, length}
 use native.Mathlib.Omega.{arith}
-use borrow.Author.Rules.{rules}
 use Rattle.drivers.proofs.line.write_call.Goals as goal
 
 pub bounds-part-1 : goal.bounds-part-1

@@ -1,5 +1,4 @@
 use Rattle.drivers.specs.Talk.{write_call}
-use borrow.Author.Rules.{rules}
 use Rattle.drivers.proofs.line.writing.Goals as goal
 
 pub returns : goal.returns

@@ -1,6 +1,5 @@
 use Rattle.drivers.specs.Answers.{answer_of}
 use borrow.Author.Tests.{eq-eqb, ne_eqb, lt-ltb, le-ltb}
-use borrow.Author.Rules.{rules}
 use Rattle.drivers.proofs.parse.first.Goals as goal
 
 pub returns-then-part-lt16 : goal.returns-then-part-lt16

@@ -1,12 +1,8 @@
 use Rattle.drivers.specs.Answers.{item_fits}
 use Rattle.base.specs.Range.{all}
 use mathlib.Core.Bool.{true}
-use mathlib.Core.Path.{◌≡◌, sym, ◌∙◌}
-use native.Mathlib.Omega.{arith}
-use borrow.Author.Tests.{not-true, not-false}
+use mathlib.Core.Path.{◌≡◌}
 use Prim.Native.Nat.{◌-◌, ◌≤◌}
-use Rattle.base.specs.RangeLaws.{all_none, all_more, all_done, all-stop}
-use borrow.Author.Rules.{rules}
 use Rattle.drivers.proofs.parse.items_fit.Given as goal
 
 abbrev pub invariant-loop-i : goal.invariant-loop-i

@@ -1,6 +1,5 @@
 use Rattle.drivers.proofs.Laws.{list-many, list-short, list-good, list-bad}
 use Rattle.drivers.specs.Answers.{live_list, live_fits}
-use borrow.Author.Rules.{rules}
 use Rattle.drivers.proofs.parse.live_list.Goals as goal
 
 pub returns-then-count-gt32 : goal.returns-then-count-gt32

@@ -1,12 +1,7 @@
-use Rattle.drivers.specs.Answers.{live_fits}
-use Rattle.base.specs.Range.{all}
-use mathlib.Core.Bool.{true}
-use mathlib.Core.Path.{◌≡◌, sym, ◌∙◌}
+use mathlib.Core.Path.{sym, ◌∙◌}
 use native.Mathlib.Omega.{arith}
 use borrow.Author.Tests.{not-true, not-false}
-use Prim.Native.Nat.{◌-◌, ◌≤◌}
 use Rattle.base.specs.RangeLaws.{all_none, all_more, all_done, all-stop}
-use borrow.Author.Rules.{rules}
 use Rattle.drivers.proofs.parse.lives_fit.Goals as goal
 
 pub loop-i-init : goal.loop-i-init

@@ -1,6 +1,5 @@
 use Rattle.drivers.specs.Answers.{to_scenes}
 use borrow.Author.Tests.{eq-eqb, ne_eqb}
-use borrow.Author.Rules.{rules}
 use Rattle.drivers.proofs.parse.to_scenes.Goals as goal
 
 pub returns-then-k-eq6 : goal.returns-then-k-eq6

@@ -4,7 +4,6 @@ use Rattle.hands.proofs.Laws.{is-zero, not-zero, nudged-from}
 use borrow.Author.Tests.{ltb-true}
 use Rattle.base.specs.RangeLaws.{and_left}
 use Rattle.definition.specs.Faders.{apply_nudge}
-use borrow.Author.Rules.{rules}
 use Rattle.hands.proofs.encoders.apply_nudge.Goals as goal
 
 pub returns-then-sum-eq0 : goal.returns-then-sum-eq0

@@ -1,11 +1,8 @@
 use mathlib.Core.Path.{◌≡◌}
-use Prim.Native.Nat.{◌-◌, ◌≤◌}
 use native.Mathlib.Omega.{arith}
-use lib.ListN.{length, take}
+use lib.ListN.{length}
 use Rattle.base.specs.KeyedLaws.{long}
-use Rattle.drivers.specs.Shown.{shown}
 use Rattle.session.specs.Session.{no_move, low_channel}
-use Rattle.definition.specs.Faders.{writes}
 use Rattle.rig.specs.Seen.{rig_in}
 use Rattle.base.specs.KeyedLaws.{each}
 use Rattle.hands.proofs.Laws.{no_write, one-write, all-writes}

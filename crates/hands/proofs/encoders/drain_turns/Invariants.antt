@@ -1,16 +1,8 @@
-use mir.Syntax.{w32}
-use mir.ValLaws.{to_z-of_z}
-use lib.IntN.{pos}
 use mathlib.Core.Path.{◌≡◌}
 use Prim.Native.Nat.{◌-◌, ◌≤◌}
-use native.Mathlib.Omega.{arith}
-use lib.ListN.{length, get_or}
 use Rattle.drivers.specs.Shown.{shown}
-use Rattle.session.specs.Session.{turns_up_to, is_encoder}
+use Rattle.session.specs.Session.{turns_up_to}
 use Rattle.definition.specs.Faders.{nudges}
-use Rattle.base.specs.KeyedLaws.{each}
-use Rattle.hands.proofs.Laws.{no-nudge, one-nudge, all-nudges}
-use borrow.Author.Rules.{rules}
 use Rattle.hands.proofs.encoders.drain_turns.Given as goal
 
 abbrev pub invariant-loop-i : goal.invariant-loop-i

@@ -2,7 +2,6 @@ use mir.Syntax.{w32}
 use mir.ValLaws.{to_z-of_z}
 use lib.IntN.{pos, negsuc, ◌+ℤ◌}
 use Rattle.hands.proofs.Laws.{outside}
-use borrow.Author.Rules.{rules}
 use Rattle.hands.proofs.encoders.leaves_range.Goals as goal
 
 pub returns : goal.returns

@@ -1,7 +1,6 @@
 use mir.Syntax.{w32}
 use mir.ValLaws.{to_z-of_z}
 use Rattle.hands.proofs.Laws.{nudged-there}
-use borrow.Author.Rules.{rules}
 use Rattle.hands.proofs.encoders.nudge_from.Goals as goal
 
 pub returns-in-At : goal.returns-in-At

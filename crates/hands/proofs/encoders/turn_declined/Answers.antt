@@ -3,8 +3,8 @@ use mathlib.Core.Path.{◌≡◌, ap, ◌∙◌}
 use mathlib.Core.List.{List}
 use Prim.Native.Nat.{ℕ}
 use Rattle.lookup.specs.declared.Destination.{Destination}
-use lib.IntN.{pos, ◌+ℤ◌}
-use lib.ListN.{length, get_or, take}
+use lib.IntN.{pos}
+use lib.ListN.{get_or, take}
 use mir.Syntax.{w32}
 use mir.ValLaws.{to_z-of_z}
 use borrow.Author.Tests.{ltb-true}
@@ -12,9 +12,7 @@ use Rattle.base.specs.Keyed.{at}
 use Rattle.base.specs.RangeLaws.{and_left}
 use Rattle.lookup.specs.Lookup.{dest_at}
 use Rattle.session.specs.Session.{wires_to}
-use Rattle.definition.specs.Faders.{in_range}
 use Rattle.hands.proofs.Laws.{leaves, out_of_range, within-range, no_place, a-place}
-use borrow.Author.Rules.{rules}
 use Rattle.hands.proofs.encoders.turn_declined.Goals as goal
 
 pub destination_at-d-requires : goal.destination_at-d-requires

@@ -1,4 +1,3 @@
-use borrow.Author.Rules.{rules}
 use Rattle.hands.proofs.encoders.write_move.Goals as goal
 
 pub returns-then-t-positions : goal.returns-then-t-positions

@@ -1,5 +1,4 @@
 use mathlib.Core.Path.{refl}
-use borrow.Author.Rules.{rules}
 use Rattle.hands.proofs.faders.fader.Goals as goal
 
 pub returns-in-To : goal.returns-in-To

@@ -1,6 +1,5 @@
 use borrow.Author.Tests.{not-true, not-false}
 use Rattle.hands.proofs.Laws.{taken-unasked, held, taken}
-use borrow.Author.Rules.{rules}
 use Rattle.hands.proofs.faders.fader_at.Goals as goal
 
 pub returns-then-not-dest : goal.returns-then-not-dest

@@ -1,4 +1,3 @@
-use borrow.Author.Rules.{rules}
 use Rattle.hands.proofs.faders.in_control.Goals as goal
 
 -- src/faders.rt:33:1

@@ -1,6 +1,5 @@
 use mathlib.Core.Path.{sym}
 use mathlib.Core.Bool.{and-true}
-use borrow.Author.Rules.{rules}
 use Rattle.hands.proofs.faders.is_held.Goals as goal
 
 pub returns-in-At-last : goal.returns-in-At-last

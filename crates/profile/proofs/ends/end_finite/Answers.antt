@@ -2,7 +2,6 @@
 use mathlib.Core.Path.{sym}
 use native.Mathlib.Omega.{arith}
 use Rattle.profile.proofs.Finite.{exponent-field}
-use borrow.Author.Rules.{rules}
 use Rattle.profile.proofs.ends.end_finite.Goals as goal
 
 pub returns : goal.returns

@@ -6,7 +6,6 @@ use mathlib.Core.Bool.{Bool, true, false, ◌&&◌, not}
 use lib.Ieee.Scale.{finite}
 use borrow.Author.Tests.{not-true, not-false}
 use Rattle.profile.specs.Profile.{byte_at, double_at, control, ends_finite}
-use borrow.Author.Rules.{rules}
 use Rattle.profile.proofs.ends.ends_finite.Goals as goal
 
 -- `profile::ends::ends_finite` meets its contract. Assumes nothing.

@@ -1,12 +1,9 @@
 -- `profile::ends::finite_ok` meets its contract. Assumes nothing.
-use Prim.Native.Nat.{◌≤◌, ◌-◌}
-use mathlib.Core.Path.{◌≡◌, sym, ◌∙◌}
-use mathlib.Core.Bool.{true}
+use mathlib.Core.Path.{sym, ◌∙◌}
 use native.Mathlib.Omega.{arith}
 use borrow.Author.Tests.{not-true, not-false}
-use Rattle.base.specs.Range.{all}
 use Rattle.base.specs.RangeLaws.{all_none, all_more, all_done, all-stop}
-use Rattle.profile.specs.Profile.{ends_finite, finite_ok}
+use Rattle.profile.specs.Profile.{finite_ok}
 use Rattle.profile.proofs.Behind.{finite-past, all-ordered}
 use borrow.Author.Rules.{rules}
 use Rattle.profile.proofs.ends.finite_ok.Goals as goal

@@ -1,5 +1,4 @@
 -- `profile::fields::button_ok` meets its contract. Assumes nothing.
-use borrow.Author.Rules.{rules}
 use Rattle.base.specs.Range.{every}
 use Rattle.profile.proofs.fields.button_ok.Goals as goal
 

@@ -1,13 +1,10 @@
 -- `profile::fields::fields_ok` meets its contract. Assumes nothing.
-use Prim.Native.Nat.{◌≤◌, ◌-◌}
-use mathlib.Core.Path.{◌≡◌, sym, ◌∙◌}
-use mathlib.Core.Bool.{true}
+use mathlib.Core.Path.{sym, ◌∙◌}
 use native.Mathlib.Omega.{arith}
 use borrow.Author.Tests.{not-true, not-false}
 use borrow.Author.Rules.{rules}
-use Rattle.base.specs.Range.{all}
 use Rattle.base.specs.RangeLaws.{all_none, all_more, all_done, all-stop}
-use Rattle.profile.specs.Profile.{record_ok, fields_ok}
+use Rattle.profile.specs.Profile.{fields_ok}
 use Rattle.profile.proofs.fields.fields_ok.Goals as goal
 
 pub loop-k-init : goal.loop-k-init

@@ -1,12 +1,12 @@
 -- `profile::fields::is_zeros` meets its contract. Assumes nothing.
-use Prim.Native.Nat.{◌≤◌, ◌-◌, ◌+◌}
-use mathlib.Core.Path.{◌≡◌, sym, ◌∙◌}
+use Prim.Native.Nat.{◌+◌}
+use mathlib.Core.Path.{sym, ◌∙◌}
 use native.Mathlib.Omega.{arith}
 use lib.Dec.{eqb}
 use borrow.Author.Rules.{rules}
 use Rattle.base.specs.RangeLaws.{all_none}
 use Rattle.profile.specs.RangeMore.{all-next, all_end}
-use Rattle.profile.specs.Profile.{byte_at, zeros}
+use Rattle.profile.specs.Profile.{byte_at}
 use Rattle.profile.proofs.fields.is_zeros.Goals as goal
 
 pub loop-j-init : goal.loop-j-init

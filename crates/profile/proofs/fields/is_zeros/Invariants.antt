@@ -1,12 +1,7 @@
 -- `profile::fields::is_zeros` meets its contract. Assumes nothing.
-use Prim.Native.Nat.{◌≤◌, ◌-◌, ◌+◌}
-use mathlib.Core.Path.{◌≡◌, sym, ◌∙◌}
-use native.Mathlib.Omega.{arith}
-use lib.Dec.{eqb}
-use borrow.Author.Rules.{rules}
-use Rattle.base.specs.RangeLaws.{all_none}
-use Rattle.profile.specs.RangeMore.{all-next, all_end}
-use Rattle.profile.specs.Profile.{byte_at, zeros}
+use Prim.Native.Nat.{◌≤◌, ◌-◌}
+use mathlib.Core.Path.{◌≡◌}
+use Rattle.profile.specs.Profile.{zeros}
 use Rattle.profile.proofs.fields.is_zeros.Given as goal
 
 abbrev pub invariant-loop-j : goal.invariant-loop-j

@@ -1,7 +1,6 @@
 -- `profile::fields::record_ok` meets its contract. Assumes nothing.
 use mathlib.Core.Path.{sym, ◌∙◌}
 use borrow.Author.Tests.{ne_eqb}
-use borrow.Author.Rules.{rules}
 use Rattle.profile.specs.Profile.{ok_as, record_ok}
 use Rattle.profile.proofs.fields.record_ok.Goals as goal
 

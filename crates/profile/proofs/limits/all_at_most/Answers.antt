@@ -1,12 +1,11 @@
 -- `profile::limits::all_at_most` meets its contract. Assumes nothing.
-use Prim.Native.Nat.{◌≤◌, ◌-◌, ◌+◌}
-use mathlib.Core.Path.{◌≡◌, sym, ap, ◌∙◌}
+use Prim.Native.Nat.{◌+◌}
+use mathlib.Core.Path.{sym, ap, ◌∙◌}
 use mathlib.Core.Bool.{Bool, ◌&&◌}
 use native.Mathlib.Omega.{arith}
 use lib.Dec.{leb}
 use lib.ListN.{get_or}
 use borrow.Author.Rules.{rules}
-use Rattle.base.specs.Range.{all}
 use Rattle.base.specs.RangeLaws.{all_none}
 use Rattle.profile.specs.RangeMore.{all-next, all_end}
 use Rattle.profile.specs.Limits.{all_at_most}

@@ -1,9 +1,8 @@
 -- `profile::limits::limits_ok` meets its contract. Assumes nothing.
-use Rattle.profile.specs.Limits.{counted, Tally, tally-start, tally-le, tally-skip, tally-add, tally-limits}
-use Prim.Native.Nat.{◌≤◌, ◌-◌}
-use mathlib.Core.Path.{◌≡◌, sym, ap, ◌∙◌}
+use Rattle.profile.specs.Limits.{counted, tally-start, tally-le, tally-skip, tally-add, tally-limits}
+use mathlib.Core.Path.{sym, ap, ◌∙◌}
 use native.Mathlib.Omega.{arith}
-use lib.ListN.{length, length-set}
+use lib.ListN.{length-set}
 use borrow.Author.Rules.{rules}
 use Rattle.profile.proofs.limits.limits_ok.Goals as goal
 

@@ -1,10 +1,8 @@
 -- `profile::limits::limits_ok` meets its contract. Assumes nothing.
-use Rattle.profile.specs.Limits.{counted, Tally, tally-start, tally-le, tally-skip, tally-add, tally-limits}
+use Rattle.profile.specs.Limits.{Tally}
 use Prim.Native.Nat.{◌≤◌, ◌-◌}
-use mathlib.Core.Path.{◌≡◌, sym, ap, ◌∙◌}
-use native.Mathlib.Omega.{arith}
-use lib.ListN.{length, length-set}
-use borrow.Author.Rules.{rules}
+use mathlib.Core.Path.{◌≡◌}
+use lib.ListN.{length}
 use Rattle.profile.proofs.limits.limits_ok.Given as goal
 
 abbrev pub invariant-loop-k : goal.invariant-loop-k

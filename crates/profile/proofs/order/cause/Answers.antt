@@ -1,6 +1,5 @@
 -- `profile::order::cause` meets its contract. Assumes nothing.
 use Rattle.profile.proofs.Ordered.{by_order, by-found, by-once, by-bank, by-neither}
-use borrow.Author.Rules.{rules}
 use Rattle.profile.proofs.order.cause.Goals as goal
 
 pub returns-then-found-eq0 : goal.returns-then-found-eq0
@@ -12,8 +11,8 @@ once_each-requires c = (c.requires, by-found _ _ c.ordered-found.ensures c.if-fo
 pub returns-then-not-once_each : goal.returns-then-not-once_each
 returns-then-not-once_each c = search by-once
 
-pub returns-then-found-eq1 : goal.returns-then-found-eq1
-returns-then-found-eq1 c = search by-bank
+pub returns-then-bankless : goal.returns-then-bankless
+returns-then-bankless c = search by-bank
 
 pub returns : goal.returns
 returns c = search by-neither

@@ -1,5 +1,4 @@
 -- `profile::order::follows` meets its contract. Assumes nothing.
-use borrow.Author.Rules.{rules}
 use Rattle.profile.proofs.order.follows.Goals as goal
 
 pub returns : goal.returns

@@ -1,5 +1,4 @@
 -- `profile::order::leads` meets its contract. Assumes nothing.
-use borrow.Author.Rules.{rules}
 use Rattle.profile.proofs.order.leads.Goals as goal
 
 pub returns : goal.returns

@@ -1,13 +1,13 @@
 -- `profile::order::once_each` meets its contract. Assumes nothing.
-use Prim.Native.Nat.{ℕ, ◌≤◌, ◌-◌}
+use Prim.Native.Nat.{ℕ}
 use mathlib.Core.Path.{◌≡◌, sym, ap, ◌∙◌}
 use mathlib.Core.Bool.{Bool, true}
 use mathlib.Core.List.{List}
 use native.Mathlib.Omega.{arith}
-use lib.ListN.{length, get_or, length-set}
+use lib.ListN.{get_or, length-set}
 use Rattle.base.specs.RangeLaws.{all_done, all-stop}
 use Rattle.profile.specs.Profile.{byte_at, control, once_each}
-use Rattle.profile.specs.Order.{Once, once-start, once-skip, once-mark, once-found}
+use Rattle.profile.specs.Order.{once-start, once-skip, once-mark, once-found}
 use Rattle.profile.proofs.Behind.{once-past}
 use borrow.Author.Rules.{rules}
 use Rattle.profile.proofs.order.once_each.Goals as goal

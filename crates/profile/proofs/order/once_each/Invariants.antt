@@ -1,14 +1,8 @@
 -- `profile::order::once_each` meets its contract. Assumes nothing.
-use Prim.Native.Nat.{ℕ, ◌≤◌, ◌-◌}
-use mathlib.Core.Path.{◌≡◌, sym, ap, ◌∙◌}
-use mathlib.Core.Bool.{true}
-use native.Mathlib.Omega.{arith}
-use lib.ListN.{length, get_or, length-set}
-use Rattle.base.specs.RangeLaws.{all_done, all-stop}
-use Rattle.profile.specs.Profile.{byte_at, control, once_each}
-use Rattle.profile.specs.Order.{Once, once-start, once-skip, once-mark, once-found}
-use Rattle.profile.proofs.Behind.{once-past}
-use borrow.Author.Rules.{rules}
+use Prim.Native.Nat.{◌≤◌, ◌-◌}
+use mathlib.Core.Path.{◌≡◌}
+use lib.ListN.{length}
+use Rattle.profile.specs.Order.{Once}
 use Rattle.profile.proofs.order.once_each.Given as goal
 
 abbrev pub invariant-loop-k : goal.invariant-loop-k

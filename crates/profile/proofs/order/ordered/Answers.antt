@@ -1,10 +1,8 @@
 -- `profile::order::ordered` meets its contract. Assumes nothing.
-use Prim.Native.Nat.{◌≤◌, ◌-◌}
 use mathlib.Core.Path.{sym, ◌∙◌}
-use mathlib.Core.Logic.{⊎_elim}
 use native.Mathlib.Omega.{arith}
 use borrow.Author.Tests.{not-true, not-false}
-use Rattle.profile.proofs.Ordered.{Head, Rest, head-none, head_more, head-stop, none_first, rest-none, rest_more, rest-stop, none_found, all_found}
+use Rattle.profile.proofs.Ordered.{head-none, head_more, head-stop, none_first, rest-none, rest_more, rest-stop, none_found, all_found}
 use borrow.Author.Rules.{rules}
 use Rattle.profile.proofs.order.ordered.Goals as goal
 use Rattle.profile.proofs.order.ordered.Goals.{else-loop-k-test, then-loop-k-test+then-byte-gt1}

@@ -1,6 +1,5 @@
 -- `profile::order::slot` meets its contract. Assumes nothing.
 use native.Mathlib.Omega.{arith}
-use borrow.Author.Rules.{rules}
 use Rattle.profile.proofs.order.slot.Goals as goal
 
 pub returns : goal.returns

@@ -1,9 +1,7 @@
 -- `profile::view::count_kind` meets its contract. Assumes nothing.
-use Prim.Native.Nat.{◌≤◌, ◌-◌}
-use mathlib.Core.Path.{◌≡◌, sym, ◌∙◌}
+use mathlib.Core.Path.{sym, ◌∙◌}
 use native.Mathlib.Omega.{arith}
 use borrow.Author.Rules.{rules}
-use Rattle.base.specs.Range.{count}
 use Rattle.base.specs.RangeLaws.{count_none, count-more, count-done}
 use Rattle.profile.specs.Profile.{is_kind, kind_count}
 use Rattle.profile.proofs.view.count_kind.Goals as goal

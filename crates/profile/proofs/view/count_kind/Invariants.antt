@@ -1,11 +1,8 @@
 -- `profile::view::count_kind` meets its contract. Assumes nothing.
 use Prim.Native.Nat.{◌≤◌, ◌-◌}
-use mathlib.Core.Path.{◌≡◌, sym, ◌∙◌}
-use native.Mathlib.Omega.{arith}
-use borrow.Author.Rules.{rules}
+use mathlib.Core.Path.{◌≡◌}
 use Rattle.base.specs.Range.{count}
-use Rattle.base.specs.RangeLaws.{count_none, count-more, count-done}
-use Rattle.profile.specs.Profile.{is_kind, kind_count}
+use Rattle.profile.specs.Profile.{is_kind}
 use Rattle.profile.proofs.view.count_kind.Given as goal
 
 abbrev pub invariant-loop-k : goal.invariant-loop-k

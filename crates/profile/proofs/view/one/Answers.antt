@@ -1,5 +1,4 @@
 -- `profile::view::one` meets its contract. Assumes nothing.
-use borrow.Author.Rules.{rules}
 use Rattle.base.specs.RangeLaws.{bit_le}
 use Rattle.profile.proofs.view.one.Goals as goal
 

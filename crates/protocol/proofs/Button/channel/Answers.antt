@@ -2,7 +2,6 @@ use mathlib.Core.Path.{sym, ◌∙◌}
 use native.Mathlib.Omega.{arith}
 use Rattle.protocol.proofs.Laws.{base-at}
 use Rattle.protocol.specs.Protocol.{channel_of}
-use borrow.Author.Rules.{rules}
 use Rattle.protocol.proofs.Button.channel.Goals as goal
 
 pub channel_base-requires : goal.channel_base-requires

@@ -2,7 +2,6 @@ use mathlib.Core.Path.{sym, ◌∙◌}
 use native.Mathlib.Omega.{arith}
 use Rattle.protocol.proofs.Laws.{base-at, named-at}
 use Rattle.protocol.specs.Protocol.{kind_of}
-use borrow.Author.Rules.{rules}
 use Rattle.protocol.proofs.Button.kind.Goals as goal
 
 pub overflow_cast-result : goal.overflow_cast-result

@@ -6,7 +6,6 @@ use Prim.Native.Nat.{ℕ, ◌+◌, ◌%◌, ◌/◌}
 use mathlib.Core.Bool.{Bool}
 use mathlib.Core.List.{List, [], ◌∷◌}
 use mathlib.Core.Path.{◌≡◌, ap, ◌∙◌}
-use borrow.Author.Rules.{rules}
 use Rattle.protocol.proofs.Out.bytes.Goals as goal
 
 both : (out : Out) (r : List ℕ) → r ≡ bytes_of out → (r ≡ bytes_of out) × (decode_of r ≡ heard_of out)

@@ -1,9 +1,7 @@
-use Prim.Native.Nat.{◌≤◌, ◌-◌}
 use mathlib.Core.Path.{◌≡◌, ap, ◌∙◌}
 use native.Mathlib.Omega.{arith}
-use Rattle.lookup.specs.Lookup.{seen_drivers, most_common}
+use Rattle.lookup.specs.Lookup.{most_common}
 use Rattle.definition.specs.Rig.{own_drivers, bank_driver}
-use Rattle.rig.specs.Seen.{here_in}
 use Rattle.rig.proofs.Laws.{no-drivers, one-driver}
 use borrow.Author.Rules.{rules}
 use Rattle.rig.proofs.here.bank_driver.Goals as goal

@@ -1,5 +1,4 @@
 use Rattle.definition.specs.Rig.{destination}
-use borrow.Author.Rules.{rules}
 use Rattle.rig.proofs.here.destination.Goals as goal
 
 pub returns-in-To : goal.returns-in-To

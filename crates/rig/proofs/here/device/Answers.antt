@@ -2,7 +2,6 @@ use Rattle.lookup.specs.Known.{known-device}
 use Rattle.definition.specs.Rig.{device}
 use Rattle.rig.proofs.Laws.{low-driver}
 use borrow.Author.Tests.{eq-eqb, ne_eqb}
-use borrow.Author.Rules.{rules}
 use Rattle.rig.proofs.here.device.Goals as goal
 
 pub returns-then-own : goal.returns-then-own

@@ -1,10 +1,7 @@
-use Prim.Native.Nat.{◌≤◌, ◌-◌}
 use mathlib.Core.Path.{◌≡◌, sym, ap, ◌∙◌}
-use mathlib.Core.Option.{none}
 use native.Mathlib.Omega.{arith}
 use Rattle.definition.specs.Rig.{first_target}
 use Rattle.definition.specs.Buttons.{or_absent}
-use Rattle.rig.specs.Seen.{here_in}
 use Rattle.rig.proofs.Laws.{no_target, not_yet, is-first}
 use borrow.Author.Rules.{rules}
 use Rattle.rig.proofs.here.first_target.Goals as goal

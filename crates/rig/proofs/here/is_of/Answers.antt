@@ -1,4 +1,3 @@
-use borrow.Author.Rules.{rules}
 use Rattle.rig.proofs.here.is_of.Goals as goal
 
 pub returns-in-To : goal.returns-in-To

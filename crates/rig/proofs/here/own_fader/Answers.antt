@@ -1,6 +1,5 @@
 use Rattle.definition.specs.Rig.{own_fader}
 use borrow.Author.Tests.{eq-eqb, ne_eqb}
-use borrow.Author.Rules.{rules}
 use Rattle.rig.proofs.here.own_fader.Goals as goal
 
 pub returns-then-live_of : goal.returns-then-live_of

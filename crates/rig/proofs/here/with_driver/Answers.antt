@@ -4,7 +4,6 @@ use native.Mathlib.Omega.{arith}
 use lib.ListN.{length}
 use Rattle.base.specs.KeyedLaws as laws
 use Rattle.rig.proofs.Laws.{no-driver, its-driver}
-use borrow.Author.Rules.{rules}
 use Rattle.rig.proofs.here.with_driver.Goals as goal
 
 pub returns-in_default : goal.returns-in_default

@@ -1,4 +1,3 @@
-use borrow.Author.Rules.{rules}
 use Rattle.rig.proofs.levels.as_the_fader_sees.Goals as goal
 
 pub returns-in-At : goal.returns-in-At

@@ -1,6 +1,5 @@
 use Rattle.drivers.specs.Talk.{next}
 use Rattle.definition.specs.Levels.{read}
-use borrow.Author.Rules.{rules}
 use Rattle.rig.proofs.levels.read.Goals as goal
 
 pub returns : goal.returns

@@ -1,6 +1,5 @@
 use Rattle.drivers.specs.Talk.{next}
 use Rattle.definition.specs.Levels.{read_mute}
-use borrow.Author.Rules.{rules}
 use Rattle.rig.proofs.levels.read_mute.Goals as goal
 
 pub returns-in-At : goal.returns-in-At

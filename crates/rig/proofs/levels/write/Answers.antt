@@ -1,5 +1,4 @@
 use Rattle.definition.specs.Levels.{write}
-use borrow.Author.Rules.{rules}
 use Rattle.rig.proofs.levels.write.Goals as goal
 
 pub returns : goal.returns

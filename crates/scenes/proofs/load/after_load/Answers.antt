@@ -1,5 +1,4 @@
 use Rattle.scenes.proofs.Laws.{left_after}
-use borrow.Author.Rules.{rules}
 use Rattle.scenes.proofs.load.after_load.Goals as goal
 
 pub returns : goal.returns

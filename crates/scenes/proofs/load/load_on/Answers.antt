@@ -3,7 +3,6 @@ use native.Mathlib.Omega.{arith}
 use lib.ListN.{length}
 use Rattle.base.specs.KeyedLaws.{long}
 use Rattle.scenes.proofs.Laws.{not_listed, told-low, loads-on}
-use borrow.Author.Rules.{rules}
 use Rattle.scenes.proofs.load.load_on.Goals as goal
 
 pub returns-then-not-all : goal.returns-then-not-all

@@ -2,7 +2,6 @@ use Prim.Native.Nat.{◌≤◌, ◌<◌}
 use mathlib.Core.Path.{refl}
 use native.Mathlib.Omega.{arith}
 use Rattle.scenes.proofs.Laws.{loads-none, in_list, one_byte, is-there, not-loaded, loads, load-flash}
-use borrow.Author.Rules.{rules}
 use Rattle.scenes.proofs.load.load_scene_at.Goals as goal
 
 pub returns-then-name-offer : goal.returns-then-name-offer
@@ -38,8 +37,11 @@ returns-then-not-t c = let load = c in
     let scene = load in
     let test = scene in
     let name = test.device-name in
-    let names = test.scene_names-g in record { messages_after = not-loaded _ _ _ _ _ _ _ names.ensures.messages_after name.result name.ensures.value _ names.ensures.offers.count test.if-name-offer.false _ scene.name_at-scene.ensures _ _
-          load.load_on-t.ensures c.if-not-t.true; flash_value = refl }
+    let names = test.scene_names-g in record {
+      messages_after = not-loaded _ _ _ _ _ _ _ names.ensures.messages_after name.result name.ensures.value _ names.ensures.offers.count test.if-name-offer.false _ scene.name_at-scene.ensures _ _
+          load.load_on-t.ensures c.if-not-t.true;
+      flash_value = refl;
+    }
 
 pub after_load-l-requires : goal.after_load-l-requires
 after_load-l-requires c = let test = c in
@@ -60,5 +62,8 @@ returns c = let after = c in
     let scene = load in
     let test = scene in
     let name = test.device-name in
-    let names = test.scene_names-g in record { messages_after = loads _ _ _ _ _ _ _ names.ensures.messages_after name.result name.ensures.value _ names.ensures.offers.count test.if-name-offer.false _ scene.name_at-scene.ensures _ _
-          load.load_on-t.ensures _ _ done.if-not-t.false after.after_load-l.ensures c.push_state-w.ensures; flash_value = load-flash _ _ _ _ after.after_load-l.ensures }
+    let names = test.scene_names-g in record {
+      messages_after = loads _ _ _ _ _ _ _ names.ensures.messages_after name.result name.ensures.value _ names.ensures.offers.count test.if-name-offer.false _ scene.name_at-scene.ensures _ _
+          load.load_on-t.ensures _ _ done.if-not-t.false after.after_load-l.ensures c.push_state-w.ensures;
+      flash_value = load-flash _ _ _ _ after.after_load-l.ensures;
+    }

@@ -3,7 +3,6 @@ use native.Mathlib.Omega.{arith}
 use lib.ListN.{length}
 use Rattle.base.specs.KeyedLaws.{long}
 use Rattle.scenes.proofs.Laws.{reported-name}
-use borrow.Author.Rules.{rules}
 use Rattle.scenes.proofs.names.name_at.Goals as goal
 
 pub returns-then-offer : goal.returns-then-offer

@@ -1,15 +1,10 @@
 use Prim.Native.Nat.{◌-◌, ◌≤◌}
 use mathlib.Core.Path.{◌≡◌}
-use native.Mathlib.Omega.{arith}
 use lib.Dec.{eqb}
-use lib.ListN.{length, get_or}
+use lib.ListN.{get_or}
 use Rattle.base.specs.First.{first}
-use Rattle.base.specs.FirstLaws.{first-none}
-use Rattle.base.specs.KeyedLaws.{long}
 use Rattle.base.specs.declared.Place.TheVariants.{Nothing}
 use Rattle.drivers.specs.Shown.{seen_names}
-use Rattle.scenes.proofs.Laws.{place-hit, place-more, place-done}
-use borrow.Author.Rules.{rules}
 use Rattle.scenes.proofs.names.place_in.Given as goal
 
 abbrev pub invariant-loop-i : goal.invariant-loop-i

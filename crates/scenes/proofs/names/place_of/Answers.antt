@@ -2,7 +2,6 @@ use mathlib.Core.Path.{◌≡◌}
 use lib.ListN.{length}
 use Rattle.base.specs.KeyedLaws.{long}
 use Rattle.scenes.proofs.Laws.{past-names, among-names}
-use borrow.Author.Rules.{rules}
 use Rattle.scenes.proofs.names.place_of.Goals as goal
 
 pub returns-then-all-i : goal.returns-then-all-i

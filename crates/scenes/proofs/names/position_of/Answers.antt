@@ -1,4 +1,3 @@
-use borrow.Author.Rules.{rules}
 use Rattle.scenes.proofs.names.position_of.Goals as goal
 
 pub returns-then-offer : goal.returns-then-offer

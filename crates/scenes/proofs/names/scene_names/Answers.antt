@@ -4,7 +4,6 @@ use native.Mathlib.Omega.{arith}
 use lib.ListN.{length}
 use Rattle.base.specs.KeyedLaws.{long}
 use Rattle.scenes.proofs.Laws.{own-names, own-offers, reported-offers, no-device, asks-device, one_byte}
-use borrow.Author.Rules.{rules}
 use Rattle.scenes.proofs.names.scene_names.Goals as goal
 
 pub returns-then-own-ne0 : goal.returns-then-own-ne0
@@ -20,8 +19,11 @@ returns-then-name c = let names = c.no_names in
     let start = test in
     let count = test.scene_count-own in
     let o = c.reported-o in
-    let l : length names.result.list ≡ 128 = search (long, names.type_inv) in record { messages_after = no-device _ start.args.here o.result names.result o.ensures.0 o.ensures.2 _ _ test.device-name.result count.ensures test.if-own-ne0.false
-          test.device-name.ensures.value c.if-name.true names.ensures.0; offers = reported-offers _ start.args.here o.result names.result o.ensures.0 o.ensures.2 o.ensures.1 (rw names.ensures.1 (omega arith)) l }
+    let l : length names.result.list ≡ 128 = search (long, names.type_inv) in record {
+      messages_after = no-device _ start.args.here o.result names.result o.ensures.0 o.ensures.2 _ _ test.device-name.result count.ensures test.if-own-ne0.false
+          test.device-name.ensures.value c.if-name.true names.ensures.0;
+      offers = reported-offers _ start.args.here o.result names.result o.ensures.0 o.ensures.2 o.ensures.1 (rw names.ensures.1 (omega arith)) l;
+    }
 
 pub overflow_cast-name : goal.overflow_cast-name
 overflow_cast-name c = let name = c.device-name in
@@ -35,5 +37,8 @@ returns c = let asked = c in
     let count = test.scene_count-own in
     let names = asked.scenes-g.result.names in
     let o = c.reported-o-2 in
-    let l : length names.list ≡ 128 = search (long, asked.scenes-g.type_inv.1.1.1.1.0) in record { messages_after = asks-device _ start.args.here o.result names o.ensures.0 o.ensures.2 _ _ test.device-name.result count.ensures test.if-own-ne0.false
-          test.device-name.ensures.value _ _ asked.if-name.false asked.scenes-g.ensures.messages_after; offers = reported-offers _ start.args.here o.result names o.ensures.0 o.ensures.2 o.ensures.1 asked.scenes-g.ensures.count_bound l }
+    let l : length names.list ≡ 128 = search (long, asked.scenes-g.type_inv.1.1.1.1.0) in record {
+      messages_after = asks-device _ start.args.here o.result names o.ensures.0 o.ensures.2 _ _ test.device-name.result count.ensures test.if-own-ne0.false
+          test.device-name.ensures.value _ _ asked.if-name.false asked.scenes-g.ensures.messages_after;
+      offers = reported-offers _ start.args.here o.result names o.ensures.0 o.ensures.2 o.ensures.1 asked.scenes-g.ensures.count_bound l;
+    }

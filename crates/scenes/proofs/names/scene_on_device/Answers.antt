@@ -2,7 +2,6 @@ use Prim.Native.Nat.{◌≤◌}
 use mathlib.Core.Path.{refl}
 use native.Mathlib.Omega.{arith}
 use Rattle.scenes.proofs.Laws.{off-device, one_byte, cannot-say, says-low}
-use borrow.Author.Rules.{rules}
 use Rattle.scenes.proofs.names.scene_on_device.Goals as goal
 
 pub returns-then-name : goal.returns-then-name

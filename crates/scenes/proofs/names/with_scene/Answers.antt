@@ -1,6 +1,5 @@
 use native.Mathlib.Omega.{arith}
 use Rattle.scenes.proofs.Laws.{low-at, placed_at, placed-nowhere}
-use borrow.Author.Rules.{rules}
 use Rattle.scenes.proofs.names.with_scene.Goals as goal
 
 pub overflow_cast-i : goal.overflow_cast-i

@@ -1,12 +1,8 @@
-use mathlib.Core.Path.{◌≡◌, sym, ap, ◌∙◌}
-use Prim.Native.Nat.{◌-◌, ◌≤◌}
+use mathlib.Core.Path.{sym, ap, ◌∙◌}
 use native.Mathlib.Omega.{arith}
 use native.Mathlib.Numerals.{add-one}
-use lib.ListN.{take}
-use Rattle.base.specs.Keyed.{at}
 use Rattle.base.specs.KeyedLaws as laws
 use Rattle.lookup.specs.Lookup.{same_dest}
-use Rattle.session.specs.Session.{wires_to}
 use Rattle.session.specs.SessionLaws.{encoder-in-file}
 use borrow.Author.Rules.{rules}
 use Rattle.session.proofs.desk.find_in.Goals as goal

@@ -1,12 +1,10 @@
 use mathlib.Core.Path.{◌≡◌, sym}
-use Prim.Native.Nat.{◌-◌, ◌≤◌}
 use native.Mathlib.Omega.{arith}
 use native.Mathlib.Numerals.{add-one}
-use lib.ListN.{length, take}
+use lib.ListN.{length}
 use borrow.Author.Tests.{eq-eqb, ne_eqb}
-use Rattle.base.specs.Keyed.{at}
 use Rattle.base.specs.KeyedLaws as laws
-use Rattle.session.specs.Session.{is_channel, no_move}
+use Rattle.session.specs.Session.{no_move}
 use borrow.Author.Rules.{rules}
 use Rattle.session.proofs.desk.find_move.Goals as goal
 

@@ -1,13 +1,8 @@
-use mathlib.Core.Path.{◌≡◌, sym}
+use mathlib.Core.Path.{◌≡◌}
 use Prim.Native.Nat.{◌-◌, ◌≤◌}
-use native.Mathlib.Omega.{arith}
-use native.Mathlib.Numerals.{add-one}
-use lib.ListN.{length, take}
-use borrow.Author.Tests.{eq-eqb, ne_eqb}
+use lib.ListN.{take}
 use Rattle.base.specs.Keyed.{at}
-use Rattle.base.specs.KeyedLaws as laws
-use Rattle.session.specs.Session.{is_channel, no_move}
-use borrow.Author.Rules.{rules}
+use Rattle.session.specs.Session.{is_channel}
 use Rattle.session.proofs.desk.find_move.Given as goal
 
 abbrev pub invariant-loop-i : goal.invariant-loop-i

@@ -1,6 +1,5 @@
 use mathlib.Core.Path.{refl}
 use Rattle.session.specs.Session.{is_marked}
-use borrow.Author.Rules.{rules}
 use Rattle.session.proofs.desk.is_marked.Goals as goal
 
 pub returns : goal.returns

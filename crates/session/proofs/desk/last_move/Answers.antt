@@ -1,5 +1,4 @@
 use Rattle.session.specs.Session.{last_move}
-use borrow.Author.Rules.{rules}
 use Rattle.session.proofs.desk.last_move.Goals as goal
 
 pub returns-then-moves-k : goal.returns-then-moves-k

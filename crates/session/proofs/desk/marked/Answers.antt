@@ -1,6 +1,5 @@
 use mathlib.Core.Path.{refl}
 use Rattle.session.specs.Session.{mark_at}
-use borrow.Author.Rules.{rules}
 use Rattle.session.proofs.desk.marked.Goals as goal
 
 pub returns : goal.returns

@@ -1,6 +1,5 @@
 use mathlib.Core.Path.{refl}
 use Rattle.session.specs.Session.{moved_to}
-use borrow.Author.Rules.{rules}
 use Rattle.session.proofs.desk.moved_to.Goals as goal
 
 pub returns : goal.returns

@@ -4,7 +4,6 @@ use lib.ListN.{length}
 use Rattle.base.specs.KeyedLaws as laws
 use Rattle.session.proofs.Laws.{changed, seen-roomy, added}
 use Rattle.session.specs.Session.{move_of, no_move, place_move, has_place}
-use borrow.Author.Rules.{rules}
 use Rattle.session.proofs.desk.place_move.Goals as goal
 
 pub returns-then-i-n : goal.returns-then-i-n

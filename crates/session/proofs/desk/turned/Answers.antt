@@ -1,8 +1,8 @@
 use mathlib.Core.Path.{◌≡◌, ap, ◌∙◌}
-use Prim.Native.Nat.{ℕ, ◌≤◌, ◌<◌}
+use Prim.Native.Nat.{ℕ, ◌<◌}
 use mathlib.Core.List.{List}
 use Rattle.lookup.specs.declared.Destination.{Destination}
-use lib.ListN.{length, get_or, take}
+use lib.ListN.{get_or, take}
 use native.Mathlib.Omega.{arith}
 use borrow.Author.Tests.{ltb-true}
 use Rattle.base.specs.Keyed.{at}

@@ -1,13 +1,10 @@
 use mathlib.Core.Path.{◌≡◌, refl, ap}
 use mathlib.Core.Bool.{Bool}
 use mathlib.Core.List.{List}
-use Prim.Native.Nat.{◌-◌, ◌≤◌}
 use native.Mathlib.Omega.{arith}
 use native.Mathlib.Numerals.{add-one}
-use Rattle.base.specs.Keyed.{at}
 use Rattle.session.specs.Session.{unmark_up_to, unmark_bank}
 use Rattle.session.specs.declared.Marks.{Marks}
-use borrow.Author.Rules.{rules}
 use Rattle.session.proofs.desk.unmarked.Goals as goal
 
 abbrev marks_of : List Bool → Marks

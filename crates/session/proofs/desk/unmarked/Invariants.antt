@@ -1,13 +1,6 @@
-use mathlib.Core.Path.{◌≡◌, refl, ap}
-use mathlib.Core.Bool.{Bool}
-use mathlib.Core.List.{List}
+use mathlib.Core.Path.{◌≡◌}
 use Prim.Native.Nat.{◌-◌, ◌≤◌}
-use native.Mathlib.Omega.{arith}
-use native.Mathlib.Numerals.{add-one}
-use Rattle.base.specs.Keyed.{at}
-use Rattle.session.specs.Session.{unmark_up_to, unmark_bank}
-use Rattle.session.specs.declared.Marks.{Marks}
-use borrow.Author.Rules.{rules}
+use Rattle.session.specs.Session.{unmark_up_to}
 use Rattle.session.proofs.desk.unmarked.Given as goal
 
 abbrev pub invariant-loop-i : goal.invariant-loop-i

@@ -1,12 +1,10 @@
 use mathlib.Core.Path.{◌≡◌, sym}
-use Prim.Native.Nat.{◌-◌, ◌≤◌}
 use native.Mathlib.Omega.{arith}
 use native.Mathlib.Numerals.{add-one}
-use lib.ListN.{length, take}
+use lib.ListN.{length}
 use borrow.Author.Tests.{eq-eqb, ne_eqb}
-use Rattle.base.specs.Keyed.{at}
 use Rattle.base.specs.KeyedLaws as laws
-use Rattle.session.specs.Session.{is_strip, no_strip}
+use Rattle.session.specs.Session.{no_strip}
 use borrow.Author.Rules.{rules}
 use Rattle.session.proofs.faders.find_strip.Goals as goal
 

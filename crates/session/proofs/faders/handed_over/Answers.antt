@@ -1,14 +1,12 @@
 use lib.ListN.{get_or, length, take, length-set}
-use mathlib.Core.Bool.{false, ◌&&◌, true}
+use mathlib.Core.Bool.{false, ◌&&◌}
 use mathlib.Core.Path.{◌≡◌, sym, ap, ◌∙◌}
 use mathlib.Core.List.{List, [], map}
 use mathlib.Core.Option.{some}
-use Prim.Native.Nat.{◌-◌, ◌≤◌}
 use native.Mathlib.Omega.{arith}
 use lib.Dec.{ltb}
 use borrow.Author.Tests.{ltb-true}
 use Rattle.base.specs.RangeLaws.{and_left, and_right}
-use Rattle.base.specs.Keyed.{keep}
 use Rattle.base.specs.KeyedLaws as laws
 use Rattle.session.proofs.Laws.{first-yes, first-no}
 use Rattle.session.specs.SessionLaws.{is_known}

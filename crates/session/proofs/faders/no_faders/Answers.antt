@@ -1,6 +1,5 @@
 use native.Mathlib.Omega.{arith}
 use Rattle.session.specs.Session.{seen_strips}
-use borrow.Author.Rules.{rules}
 use Rattle.session.proofs.faders.no_faders.Goals as goal
 
 pub returns : goal.returns

@@ -1,4 +1,3 @@
-use borrow.Author.Rules.{rules}
 use Rattle.session.proofs.faders.no_strips.Goals as goal
 
 pub returns : goal.returns

@@ -4,7 +4,6 @@ use Rattle.session.specs.Session.{no_strip}
 use mathlib.Core.Path.{◌≡◌}
 use Rattle.base.specs.KeyedLaws as laws
 use Rattle.session.proofs.Laws.{looked, strip-there, strip-missing, both-missing}
-use borrow.Author.Rules.{rules}
 use Rattle.session.proofs.faders.same_at.Goals as goal
 
 pub returns-then-n-i : goal.returns-then-n-i

@@ -1,12 +1,8 @@
-use mathlib.Core.Path.{◌≡◌, sym, ◌∙◌}
-use mathlib.Core.Bool.{Bool, true}
-use Prim.Native.Nat.{ℕ, ◌+◌, ◌-◌, ◌≤◌}
+use mathlib.Core.Path.{sym, ◌∙◌}
 use native.Mathlib.Omega.{arith}
 use borrow.Author.Tests.{not-true, not-false}
-use Rattle.base.specs.Range.{all}
 use Rattle.base.specs.RangeLaws.{all_none, all_more, all_done, all-stop}
-use Rattle.session.specs.Session.{seen_strips, strips_or, strip_at, same_at, same_strips}
-use Rattle.session.specs.declared.Strips.{Strips}
+use Rattle.session.specs.Session.{same_strips}
 use borrow.Author.Rules.{rules}
 use Rattle.session.proofs.faders.same_strips.Goals as goal
 

@@ -4,7 +4,6 @@ use mathlib.Core.Option.{some, none}
 use mathlib.Core.Path.{◌≡◌}
 use Rattle.base.specs.KeyedLaws as laws
 use Rattle.session.proofs.Laws.{looked, strip-there, strip-missing}
-use borrow.Author.Rules.{rules}
 use Rattle.session.proofs.faders.strip_found.Goals as goal
 
 pub returns-then-i-n : goal.returns-then-i-n

@@ -1,5 +1,4 @@
 use Rattle.session.specs.Session.{strip_of}
-use borrow.Author.Rules.{rules}
 use Rattle.session.proofs.faders.strip_of.Goals as goal
 
 pub returns : goal.returns

@@ -1,6 +1,5 @@
 use mathlib.Core.Path.{refl}
 use Rattle.session.specs.Session.{strips_at}
-use borrow.Author.Rules.{rules}
 use Rattle.session.proofs.faders.strips_at.Goals as goal
 
 pub returns : goal.returns

@@ -1,13 +1,8 @@
-use mathlib.Core.Path.{◌≡◌, sym}
+use mathlib.Core.Path.{◌≡◌}
 use Prim.Native.Nat.{◌-◌, ◌≤◌}
-use native.Mathlib.Omega.{arith}
-use native.Mathlib.Numerals.{add-one}
 use lib.ListN.{take}
-use borrow.Author.Tests.{eq-eqb, ne_eqb}
 use Rattle.base.specs.Keyed.{at}
-use Rattle.base.specs.KeyedLaws as laws
 use Rattle.session.specs.Session.{same_target}
-use borrow.Author.Rules.{rules}
 use Rattle.session.proofs.muting.find_in.Given as goal
 
 abbrev pub invariant-loop-i : goal.invariant-loop-i

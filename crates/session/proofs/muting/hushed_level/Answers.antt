@@ -1,7 +1,6 @@
 use mathlib.Core.Path.{◌≡◌, sym}
 use lib.ListN.{length}
 use Rattle.session.proofs.Laws.{level-there, level-missing}
-use borrow.Author.Rules.{rules}
 use Rattle.session.proofs.muting.hushed_level.Goals as goal
 
 pub returns-then-i-n : goal.returns-then-i-n

@@ -3,7 +3,6 @@ use native.Mathlib.Omega.{arith}
 use lib.ListN.{length}
 use Rattle.base.specs.KeyedLaws as laws
 use Rattle.session.specs.Session.{is_hushed}
-use borrow.Author.Rules.{rules}
 use Rattle.session.proofs.muting.is_hushed.Goals as goal
 
 pub returns : goal.returns

@@ -1,7 +1,6 @@
-use Prim.Native.Nat.{◌-◌, ◌≤◌}
 use native.Mathlib.Omega.{arith}
 use borrow.Author.Tests.{eq-eqb, ne_eqb}
-use Rattle.session.proofs.Laws.{Closing, closing-none, closing-yes, closing-no, closing-done}
+use Rattle.session.proofs.Laws.{closing-none, closing-yes, closing-no, closing-done}
 use borrow.Author.Rules.{rules}
 use Rattle.session.proofs.muting.unhush.Goals as goal
 

@@ -1,8 +1,5 @@
 use Prim.Native.Nat.{◌-◌, ◌≤◌}
-use native.Mathlib.Omega.{arith}
-use borrow.Author.Tests.{eq-eqb, ne_eqb}
-use Rattle.session.proofs.Laws.{Closing, closing-none, closing-yes, closing-no, closing-done}
-use borrow.Author.Rules.{rules}
+use Rattle.session.proofs.Laws.{Closing}
 use Rattle.session.proofs.muting.unhush.Given as goal
 
 abbrev pub invariant-loop-j : goal.invariant-loop-j

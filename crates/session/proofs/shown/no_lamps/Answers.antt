@@ -1,5 +1,4 @@
 use Rattle.session.specs.Session.{none_lit, no_flash}
-use borrow.Author.Rules.{rules}
 use Rattle.session.proofs.shown.no_lamps.Goals as goal
 
 pub returns : goal.returns

@@ -1,6 +1,5 @@
 use mathlib.Core.Path.{refl}
 use Rattle.session.specs.Session.{note_muted}
-use borrow.Author.Rules.{rules}
 use Rattle.session.proofs.shown.note_muted.Goals as goal
 
 pub returns : goal.returns

@@ -1,5 +1,4 @@
 use Rattle.session.specs.Session.{scene_at}
-use borrow.Author.Rules.{rules}
 use Rattle.session.proofs.shown.scene_at.Goals as goal
 
 pub returns-then-lamps-b : goal.returns-then-lamps-b

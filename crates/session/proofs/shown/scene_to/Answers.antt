@@ -1,6 +1,5 @@
 use mathlib.Core.Path.{refl}
 use Rattle.session.specs.Session.{scene_to}
-use borrow.Author.Rules.{rules}
 use Rattle.session.proofs.shown.scene_to.Goals as goal
 
 pub returns : goal.returns

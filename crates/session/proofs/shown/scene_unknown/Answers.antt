@@ -1,6 +1,5 @@
 use mathlib.Core.Path.{refl}
 use Rattle.session.specs.Session.{scene_unknown}
-use borrow.Author.Rules.{rules}
 use Rattle.session.proofs.shown.scene_unknown.Goals as goal
 
 pub returns : goal.returns

@@ -1,6 +1,5 @@
 use mathlib.Core.Path.{refl}
 use Rattle.session.specs.Session.{was_muted}
-use borrow.Author.Rules.{rules}
 use Rattle.session.proofs.shown.was_muted.Goals as goal
 
 pub returns : goal.returns

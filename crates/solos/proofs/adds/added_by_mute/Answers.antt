@@ -5,7 +5,6 @@ use lib.ListN.{length}
 use lib.Seq.{length-take-le}
 use Rattle.base.specs.KeyedLaws as laws
 use Rattle.definition.specs.Muting.{added_by_mute}
-use borrow.Author.Rules.{rules}
 use Rattle.solos.proofs.adds.added_by_mute.Goals as goal
 
 pub returns-in_default : goal.returns-in_default

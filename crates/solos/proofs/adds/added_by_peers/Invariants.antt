@@ -1,14 +1,9 @@
 -- `solos::adds::added_by_peers` meets its contract. Assumes nothing.
 use Prim.Native.Nat.{◌-◌, ◌≤◌}
-use mathlib.Core.Path.{◌≡◌, sym, ap, ◌∙◌}
-use native.Mathlib.Omega.{arith}
+use mathlib.Core.Path.{◌≡◌}
 use lib.ListN.{length, take}
-use lib.Seq.{length-take-le}
-use Rattle.base.specs.KeyedLaws as laws
 use Rattle.definition.specs.Muting.{solo_adds}
 use Rattle.solos.specs.Peers.{seen_peers, seen_added}
-use Rattle.solos.proofs.AddsLaws.{peer-at, none-soloed, one_more}
-use borrow.Author.Rules.{rules}
 use Rattle.solos.proofs.adds.added_by_peers.Given as goal
 
 abbrev pub invariant-loop-n : goal.invariant-loop-n

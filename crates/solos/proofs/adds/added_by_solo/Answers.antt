@@ -3,7 +3,6 @@ use lib.ListN.{take}
 use borrow.Author.Tests.{eq-eqb, ne_eqb}
 use Rattle.definition.specs.Muting.{added_by_solo}
 use Rattle.solos.proofs.AddsLaws.{same-adds}
-use borrow.Author.Rules.{rules}
 use Rattle.solos.proofs.adds.added_by_solo.Goals as goal
 
 pub returns-in_default : goal.returns-in_default

@@ -2,7 +2,6 @@
 use mathlib.Core.Path.{◌∙◌}
 use native.Mathlib.Omega.{arith}
 use Rattle.solos.proofs.AddsLaws.{none-joins, joins}
-use borrow.Author.Rules.{rules}
 use Rattle.solos.proofs.adds.adding.Goals as goal
 
 pub returns-then-has_mute-is_hushed : goal.returns-then-has_mute-is_hushed

@@ -1,7 +1,6 @@
 -- `solos::adds::adding_peer` meets its contract. Assumes nothing.
 use native.Mathlib.Omega.{arith}
 use Rattle.solos.proofs.AddsLaws.{passed_over, taken-up}
-use borrow.Author.Rules.{rules}
 use Rattle.solos.proofs.adds.adding_peer.Goals as goal
 
 -- `solos::adds::adding_peer` meets its contract. Assumes nothing.

@@ -1,14 +1,9 @@
 -- `solos::adds::is_added` meets its contract. Assumes nothing.
-use mathlib.Core.Path.{◌≡◌, sym}
+use mathlib.Core.Path.{◌≡◌}
 use Prim.Native.Nat.{◌-◌, ◌≤◌}
-use native.Mathlib.Omega.{arith}
-use native.Mathlib.Numerals.{add-one}
-use lib.ListN.{length, take}
-use borrow.Author.Tests.{eq-eqb, ne_eqb}
+use lib.ListN.{take}
 use Rattle.base.specs.Keyed.{at}
-use Rattle.base.specs.KeyedLaws as laws
 use Rattle.definition.specs.Muting.{is_same}
-use borrow.Author.Rules.{rules}
 use Rattle.solos.proofs.adds.is_added.Given as goal
 
 abbrev pub invariant-loop-i : goal.invariant-loop-i

@@ -4,7 +4,6 @@ use native.Mathlib.Omega.{arith}
 use lib.ListN.{length}
 use Rattle.base.specs.KeyedLaws as laws
 use Rattle.solos.proofs.AddsLaws.{change-same, change-new}
-use borrow.Author.Rules.{rules}
 use Rattle.solos.proofs.adds.with_target.Goals as goal
 
 pub returns-then-is_added : goal.returns-then-is_added

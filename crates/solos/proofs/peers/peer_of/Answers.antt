@@ -1,4 +1,3 @@
-use borrow.Author.Rules.{rules}
 use Rattle.solos.proofs.peers.peer_of.Goals as goal
 
 -- src/peers.rt:22:1

@@ -1,10 +1,7 @@
-use Prim.Native.Nat.{ℕ, ◌≤◌, ◌<◌, ◌-◌}
+use Prim.Native.Nat.{◌<◌}
 use mathlib.Core.Path.{◌≡◌, ◌∙◌}
 use native.Mathlib.Omega.{arith}
 use lib.ListN.{length, length-set, length-replicate}
-use Rattle.definition.specs.Muting.{peer}
-use Rattle.rig.specs.Seen.{rig_in}
-use Rattle.solos.specs.Peers.{seen_peers}
 use Rattle.solos.proofs.Laws.{none_yet, one-peer}
 use borrow.Author.Rules.{rules}
 use Rattle.solos.proofs.peers.peers_of.Goals as goal

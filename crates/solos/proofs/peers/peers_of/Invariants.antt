@@ -1,12 +1,9 @@
-use Prim.Native.Nat.{ℕ, ◌≤◌, ◌<◌, ◌-◌}
-use mathlib.Core.Path.{◌≡◌, ◌∙◌}
-use native.Mathlib.Omega.{arith}
-use lib.ListN.{length, length-set, length-replicate}
+use Prim.Native.Nat.{ℕ, ◌≤◌, ◌-◌}
+use mathlib.Core.Path.{◌≡◌}
+use lib.ListN.{length}
 use Rattle.definition.specs.Muting.{peer}
 use Rattle.rig.specs.Seen.{rig_in}
 use Rattle.solos.specs.Peers.{seen_peers}
-use Rattle.solos.proofs.Laws.{none_yet, one-peer}
-use borrow.Author.Rules.{rules}
 use Rattle.solos.proofs.peers.peers_of.Given as goal
 
 abbrev pub invariant-loop-n : goal.invariant-loop-n

@@ -1,4 +1,3 @@
-
 use Rattle.solos.proofs.peers.wired_to.Goals as goal
 
 pub returns-then-peer : goal.returns-then-peer

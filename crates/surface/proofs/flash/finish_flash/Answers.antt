@@ -1,6 +1,5 @@
 use Rattle.surface.proofs.Laws.{note-of, no_end, ends}
 use borrow.Author.Tests.{not-true, not-false}
-use borrow.Author.Rules.{rules}
 use Rattle.surface.proofs.flash.finish_flash.Goals as goal
 
 pub returns-then-not-flash : goal.returns-then-not-flash

@@ -1,6 +1,5 @@
 use native.Mathlib.Omega.{arith}
 use Rattle.surface.proofs.Laws.{shows-none, shows}
-use borrow.Author.Rules.{rules}
 use Rattle.surface.proofs.flash.flash_number.Goals as goal
 
 pub returns-then-n-ge64 : goal.returns-then-n-ge64

@@ -1,10 +1,7 @@
 use Prim.Native.Nat.{◌≤◌, ◌-◌}
 use mathlib.Core.Path.{◌≡◌}
-use native.Mathlib.Omega.{arith}
 use Rattle.drivers.specs.Shown.{shown}
 use Rattle.definition.specs.Flash.{phases}
-use Rattle.surface.proofs.Laws.{no-phase, one-phase, all-phases}
-use borrow.Author.Rules.{rules}
 use Rattle.surface.proofs.flash.send_phases.Given as goal
 
 abbrev pub invariant-loop-phase : goal.invariant-loop-phase

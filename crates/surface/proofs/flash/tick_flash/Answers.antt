@@ -2,7 +2,6 @@ use native.Mathlib.Omega.{arith}
 use Rattle.float.specs.LeafLaws.{due-most}
 use Rattle.surface.proofs.Laws.{note-of, no-tick, plays, plays-out, note-kept}
 use borrow.Author.Tests.{not-true, not-false}
-use borrow.Author.Rules.{rules}
 use Rattle.surface.proofs.flash.tick_flash.Goals as goal
 
 pub returns-then-not-flash : goal.returns-then-not-flash

@@ -1,4 +1,3 @@
-use borrow.Author.Rules.{rules}
 use Rattle.surface.proofs.lamps.is_muted.Goals as goal
 
 pub returns-in-To : goal.returns-in-To

@@ -1,6 +1,5 @@
 use Rattle.drivers.specs.Talk.{next}
 use Rattle.surface.proofs.Laws.{muted-is}
-use borrow.Author.Rules.{rules}
 use Rattle.surface.proofs.lamps.is_muted_at.Goals as goal
 
 pub returns-then-has_mute : goal.returns-then-has_mute

@@ -1,6 +1,5 @@
 use native.Mathlib.Omega.{arith}
 use Rattle.definition.specs.Lamps.{push_fader, is_muted, push_position}
-use borrow.Author.Rules.{rules}
 use Rattle.surface.proofs.lamps.push_fader.Goals as goal
 
 pub overflow_add-channel-2 : goal.overflow_add-channel-2

@@ -1,5 +1,4 @@
 use borrow.Author.Tests.{not-true, not-false}
-use borrow.Author.Rules.{rules}
 use Rattle.surface.proofs.lamps.push_position.Goals as goal
 
 pub returns-then-not-positions : goal.returns-then-not-positions

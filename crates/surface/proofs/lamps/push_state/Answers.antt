@@ -1,10 +1,4 @@
-use Prim.Native.Nat.{◌≤◌, ◌-◌}
-use mathlib.Core.Path.{◌≡◌}
 use native.Mathlib.Omega.{arith}
-use lib.ListN.{take}
-use Rattle.drivers.specs.Shown.{shown}
-use Rattle.definition.specs.Lamps.{push_faders}
-use Rattle.rig.specs.Seen.{rig_in}
 use Rattle.surface.proofs.Laws.{no-fader, one-fader, all-faders}
 use borrow.Author.Rules.{rules}
 use Rattle.surface.proofs.lamps.push_state.Goals as goal

@@ -1,4 +1,3 @@
-use borrow.Author.Rules.{rules}
 use Rattle.surface.proofs.lamps.read_and_send.Goals as goal
 
 pub returns : goal.returns

@@ -1,4 +1,3 @@
-use borrow.Author.Rules.{rules}
 use Rattle.surface.proofs.lamps.send_level.Goals as goal
 
 pub returns-in-At : goal.returns-in-At

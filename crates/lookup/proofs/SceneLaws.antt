@@ -10,7 +10,8 @@ use Rattle.base.specs.declared.Place.TheVariants.{At, Nothing}
 use Rattle.profile.specs.RangeMore.{count-lt}
 use Rattle.profile.specs.Profile.{half_at}
 use Rattle.lookup.specs.Lookup.{of_part, reach, scenes_of, position}
-use Rattle.lookup.specs.GatherLaws.{Walked, gather-length, gather-at, gather-past}
+use Rattle.lookup.specs.GatherLaws.{Walked}
+use Rattle.lookup.proofs.GatherLaws.{gather-length, gather-at, gather-past}
 
 module _ (s : List ℕ) (b : ℕ) where
   scenes-length : length (scenes_of s b) ≡ count (reach s 4) (of_part s 4 b)

@@ -1,0 +1,4 @@
+pub mod GatherLaws
+pub mod SceneLaws
+pub mod TransportLaws
+pub mod Known

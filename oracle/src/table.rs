@@ -12,8 +12,8 @@ use crate::session::{Outcome, Session};
 
 const HEAD: &str = "\
 -- Named cases of the Rust, as its oracle ran them: written by the oracle's program `recorded`. Data only.
-use mathlib.Core.List.{List, [], _∷_}
-use Rattle·recorded·specs.specs.Recorded.{Recording, recording, offer}
+use Rattle.std.specs.Prelude.{List, [], ◌∷◌}
+use Rattle.recorded.specs.Recorded.{Recording, recording, offer}
 
 abbrev pub recordings : List Recording
 recordings =

@@ -39,10 +39,10 @@ use Rattle.definition.specs.Faders.{Desk, desk, is_held, hold_move, take_move, m
 use Rattle.definition.specs.Live.{Refreshed, same_as, change_if, ask_if, refresh_live, refresh_due, is_due}
 use Rattle.definition.specs.Buttons.{button}
 use Rattle.definition.specs.Step.{Site, Kept, kept, Left, unmarked, press_at, on_button, on_midi, unmarked_at, lives_after, site_after, tick_with, tick, act}
-use Rattle.account.specs.Account.{opens, Account, Waits, Drain, Drained, Each, no_more, one_more, reading, rig_in, lined, book_if, book_move, summed, book_turn, book_press, selects, same_live, live_at, book_live, book_drain, book_event, tried_of, try_at, drain_of, reading_of, read_as, writing, Uses, used, opened-used, not-used, Tries, tried-all, tried-one, Nudges, nudged-all, zero-sum, not-read, nudged, Only, no_call, one-call, not_write, in_session, tick_in, moved_in}
-use Rattle.account.proofs.Grown.{Grown, Goes, same, weaken, join, send-ok, use-ok}
-use Rattle.account.proofs.Frame.{only-append, makes-push, makes-flash_bank, makes-tick_flash, makes-refresh, makes-transport}
-use Rattle.account.proofs.Presses.{button-ok}
+use Rattle.account.specs.Account.{opens, Account, Waits, Drain, Drained, Each, no_more, one_more, reading, rig_in, lined, book_if, book_move, summed, book_turn, book_press, selects, same_live, live_at, book_live, book_drain, book_event, tried_of, try_at, drain_of, reading_of, read_as, writing, Uses, used, opened-used, not-used, Tries, tried-all, tried-one, Nudges, nudged-all, zero_sum, not-read, nudged, Only, no_call, one-call, not_write, in_session, tick_in, moved_in}
+use Rattle.account.proofs.Grown.{Grown, Goes, same, weaken, join, send_ok, use_ok}
+use Rattle.account.proofs.Frame.{only_append, makes_push, makes_flash_bank, makes_tick_flash, makes_refresh, makes_transport}
+use Rattle.account.proofs.Presses.{button_ok_lem}
 
 -- the desk that an account stands for
 abbrev pub desk_of : Account → Desk
@@ -57,12 +57,12 @@ record Reads (o : List Bool) (d : Destination) (c : Level) (l : List Asked) : Ty
 
 read_ok : (d : Destination) (t : Talk) → Goes (read d t).talk → Grown (Reads t.opened d (read d t).value) t (read d t).talk
 unfolding read read_of next plain_call
-read_ok d t g = weaken (λ l u. record { reply = _; uses = u; value = refl }) (use-ok (reading_of d) refl t g)
+read_ok d t g = weaken (λ l u. record { reply = _; uses = u; value = refl }) (use_ok (reading_of d) refl t g)
 
-write-ok : (d : Destination) (x : Float) (t : Talk) → Goes (write d x t).talk →
+write_ok : (d : Destination) (x : Float) (t : Talk) → Goes (write d x t).talk →
     Grown (λ l. (r : Reply) × Uses t.opened (writing d x) r l) t (write d x t).talk
 unfolding write write_of use_done next write_call
-write-ok d x t g = weaken (λ l u. (_, u)) (use-ok (writing d x) refl t g)
+write_ok d x t g = weaken (λ l u. (_, u)) (use_ok (writing d x) refl t g)
 
 read_only : (d : Destination) {o : List Bool} {r : Reply} {l : List Asked} → Uses o (reading_of d) r l → Only not_write l
 unfolding plain_call
@@ -83,11 +83,11 @@ place-lined m (x ∷ xs) = go (eqb x.channel m.channel) (place-lined m xs)
     go true e = refl
     go false e = ap (λ (r : List Move). in_session x ∷ r) e
 
-moved-booked : (b : Bool) (key : ℕ) (m : Waits) (a : Account) →
+moved_booked : (b : Bool) (key : ℕ) (m : Waits) (a : Account) →
     moved_if b key m.channel m.level (desk_of a) ≡ desk_of (book_if b key m a)
 unfolding hold_move take_move
-moved-booked true key m a = refl
-moved-booked false key m a = rw (place-lined m a.line)
+moved_booked true key m a = refl
+moved_booked false key m a = rw (place-lined m a.line)
 
 module _ (key : ℕ) (m : Waits) (a : Account) (answers : List ℕ) where
   -- what a fader's move leaves
@@ -95,10 +95,10 @@ module _ (key : ℕ) (m : Waits) (a : Account) (answers : List ℕ) where
   Moved f r =
       Goes r.talk → Grown (λ l. (r.value ≡ desk_of (book_move f key m answers a)) × Only not_write l) (start answers a.opened) r.talk
 
-  fader-to : (f : Found) → Moved f (fader_to f key m.channel m.level (desk_of a) (start answers a.opened))
+  fader_to_lem : (f : Found) → Moved f (fader_to f key m.channel m.level (desk_of a) (start answers a.opened))
   unfolding Moved next reading
-  fader-to found.Nothing g = same _ _ g (refl, no_call)
-  fader-to (found.To d) g = at (d.takeover && not (is_marked key a.marks)) g
+  fader_to_lem found.Nothing g = same _ _ g (refl, no_call)
+  fader_to_lem (found.To d) g = at (d.takeover && not (is_marked key a.marks)) g
     where
       at : (b : Bool) → Goes (fader_if b d key m.channel m.level (desk_of a) (start answers a.opened)).talk →
           Grown (λ l. ((fader_if b d key m.channel m.level (desk_of a) (start answers a.opened)).value ≡
@@ -106,16 +106,16 @@ module _ (key : ℕ) (m : Waits) (a : Account) (answers : List ℕ) where
           (start answers a.opened) (fader_if b d key m.channel m.level (desk_of a) (start answers a.opened)).talk
       at true e =
           weaken
-          (λ l h. (moved-booked (is_held (reading d answers a.opened) (last_move key a.last) m.level) key m a, read_only d h.uses))
+          (λ l h. (moved_booked (is_held (reading d answers a.opened) (last_move key a.last) m.level) key m a, read_only d h.uses))
           (read_ok d (start answers a.opened) e)
-      at false e = same _ _ e (moved-booked false key m a, no_call)
+      at false e = same _ _ e (moved_booked false key m a, no_call)
 
 -- ── the drain ──
 
-nudges-ok : (es : List Turn) (t : Talk) → Goes (nudges es t) → Grown (Nudges t.opened es) t (nudges es t)
+nudges_ok : (es : List Turn) (t : Talk) → Goes (nudges es t) → Grown (Nudges t.opened es) t (nudges es t)
 unfolding nudges apply_nudge next
-nudges-ok [] t g = same _ t g nudged-all
-nudges-ok (e ∷ es) t g = one (is_zero e.sum) refl (nudges-ok es) g
+nudges_ok [] t g = same _ t g nudged-all
+nudges_ok (e ∷ es) t g = one (is_zero e.sum) refl (nudges_ok es) g
   where
     IH : Type 0
     IH = (t : Talk) → Goes (nudges es t) → Grown (Nudges t.opened es) t (nudges es t)
@@ -132,7 +132,7 @@ nudges-ok (e ∷ es) t g = one (is_zero e.sum) refl (nudges-ok es) g
     from (At c) q z ih g =
         let w = (write e.dest (nudge c e.sum) u).talk in
         let h = ih w g in
-        let k = write-ok e.dest (nudge c e.sum) u h.was in
+        let k = write_ok e.dest (nudge c e.sum) u h.was in
         let r = read_ok e.dest t k.was in
         let n : Grown (λ l. Nudges (opens (paired k.more u.left) u.opened) es l) w (nudges es w) = weaken (λ l n. rw k.opened at n) h in
         join r
@@ -141,16 +141,16 @@ nudges-ok (e ∷ es) t g = one (is_zero e.sum) refl (nudges-ok es) g
         (λ l d. rw d.1 (nudged z r.fact.uses (sym r.fact.value ∙ q) (rw r.opened at k.fact.1) d.2))
 
     one : (b : Bool) → is_zero e.sum ≡ b → IH → Goes (nudges es (nudge_if b e t)) → Grown (Nudges t.opened (e ∷ es)) t (nudges es (nudge_if b e t))
-    one true z ih g = weaken (λ l n. zero-sum z n) (ih t g)
+    one true z ih g = weaken (λ l n. zero_sum z n) (ih t g)
     one false z ih g = from (read e.dest t).value refl z ih g
 
 -- a message after a call changes nothing of what was asked
-then-silent : {P : List Asked → Type 0} {t u w : Talk} → Grown P t u → Grown (λ l. l ≡ []) u w → Grown P t w
-then-silent {P} g h = join g h (λ m e. rw (e, append-nil) g.fact)
+then_silent : {P : List Asked → Type 0} {t u w : Talk} → Grown P t u → Grown (λ l. l ≡ []) u w → Grown P t w
+then_silent {P} g h = join g h (λ m e. rw (e, append-nil) g.fact)
 
-align-ok : (b : Bool) (ch : ℕ) (x : Float) (t : Talk) → Goes (align_if b ch x t) → Grown (λ l. l ≡ []) t (align_if b ch x t)
-align-ok true ch x t g = send-ok (λ l. l ≡ []) (sent_to ch x) t refl g
-align-ok false ch x t g = same (λ l. l ≡ []) t g refl
+align_ok : (b : Bool) (ch : ℕ) (x : Float) (t : Talk) → Goes (align_if b ch x t) → Grown (λ l. l ≡ []) t (align_if b ch x t)
+align_ok true ch x t g = send_ok (λ l. l ≡ []) (sent_to ch x) t refl g
+align_ok false ch x t g = same (λ l. l ≡ []) t g refl
 
 writes_ok : (r : Rig) (ms : List Waits) (t : Talk) → Goes (writes r (map in_session ms) t) →
     Grown (Tries t.opened (tried_of r ms)) t (writes r (map in_session ms) t)
@@ -167,8 +167,8 @@ writes_ok r (m ∷ ms) t g = go (destination r (m.channel + 1)) (writes_ok r ms)
         let b = (write d m.level t).value && r.positions in
         let u = (write d m.level t).talk in
         let h = ih (align_if b m.channel m.level u) e in
-        let s = align-ok b m.channel m.level u h.was in
-        let k = then-silent (write-ok d m.level t s.was) s in
+        let s = align_ok b m.channel m.level u h.was in
+        let k = then_silent (write_ok d m.level t s.was) s in
         join k h (λ l n. tried-one k.fact.1 (rw k.opened at n))
 
 -- a drain's calls, in their two parts
@@ -179,36 +179,36 @@ record Asked-by (r : Rig) (a : Account) (o : List Bool) (l : List Asked) : Type 
   first : Nudges o a.sums encoders
   then : Tries (opens encoders o) (tried_of r a.line) faders
 
-drain-ok : (r : Rig) (a : Account) (t : Talk) → Goes (drain r (desk_of a) t) → Grown (Asked-by r a t.opened) t (drain r (desk_of a) t)
+drain_ok : (r : Rig) (a : Account) (t : Talk) → Goes (drain r (desk_of a) t) → Grown (Asked-by r a t.opened) t (drain r (desk_of a) t)
 unfolding drain
-drain-ok r a t g =
+drain_ok r a t g =
     let h = writes_ok r a.line (nudges a.sums t) g in
-    let k = nudges-ok a.sums t h.was in
+    let k = nudges_ok a.sums t h.was in
     join k h (λ l n. record { encoders = _; faders = l; all = refl; first = k.fact; then = rw k.opened at n })
 
 -- ── the live list ──
 
-strip-refl : (s : Strip) → same_strip s s ≡ true
+strip_refl : (s : Strip) → same_strip s s ≡ true
 unfolding same_strip
-strip-refl s =
+strip_refl s =
     rw (eq-eqb s.driver s.driver refl, eq-eqb s.target s.target refl, eq-eqb s.label s.label refl, eq-eqb s.group s.group refl, eq-eqb s.mute s.mute refl)
 
 at-refl : (o : Option Strip) → same_at o o ≡ true
 at-refl none = refl
-at-refl (some s) = strip-refl s
+at-refl (some s) = strip_refl s
 
-strips-refl : (l : List Strip) → same_strips l l ≡ true
+strips_refl : (l : List Strip) → same_strips l l ≡ true
 unfolding same_strips all
-strips-refl l =
+strips_refl l =
     rw (at-refl (strip_at 1 l), at-refl (strip_at 2 l), at-refl (strip_at 3 l), at-refl (strip_at 4 l), at-refl (strip_at 5 l), at-refl (strip_at 6 l), at-refl (strip_at 7 l), at-refl (strip_at 8 l))
 
-live-refl : (o : Option (List Strip)) → same_live o o ≡ true
-live-refl none = refl
-live-refl (some l) = strips-refl l
+live_refl : (o : Option (List Strip)) → same_live o o ≡ true
+live_refl none = refl
+live_refl (some l) = strips_refl l
 
-live-some : (o : Option (List Strip)) (l : List Strip) → same_live o (some l) ≡ same_as o l
-live-some none l = refl
-live-some (some k) l = refl
+live_some : (o : Option (List Strip)) (l : List Strip) → same_live o (some l) ≡ same_as o l
+live_some none l = refl
+live_some (some k) l = refl
 
 -- the flag says whether the bank's list is another
 module _ (w : Site) (now : Float) (r : Rig) (p : Lamps) (s : List ℕ) (in_list : w.bank < length w.lives) where
@@ -216,21 +216,21 @@ module _ (w : Site) (now : Float) (r : Rig) (p : Lamps) (s : List ℕ) (in_list 
   Told due x = x.changed ≡ not (same_live (live_at w.bank w) (live_at w.bank (site_after due now x w)))
 
   told_same : (due : Bool) (l : List Strip) → Told due (record { strips = l; changed = false })
-  told_same true l = rw (live-refl (live_at w.bank w))
-  told_same false l = rw (live-refl (live_at w.bank w))
+  told_same true l = rw (live_refl (live_at w.bank w))
+  told_same false l = rw (live_refl (live_at w.bank w))
 
-  told-change : (b : Bool) (l : List Strip) (t : Talk) → same_as (live_at w.bank w) l ≡ b → Told true (change_if b l r p s t).value
-  told-change true l t e = told_same true r.here.strips
-  told-change false l t e = rw (get_or-set_same w.lives w.bank (some l) none in_list, live-some (live_at w.bank w) l, e)
+  told_change : (b : Bool) (l : List Strip) (t : Talk) → same_as (live_at w.bank w) l ≡ b → Told true (change_if b l r p s t).value
+  told_change true l t e = told_same true r.here.strips
+  told_change false l t e = rw (get_or-set_same w.lives w.bank (some l) none in_list, live_some (live_at w.bank w) l, e)
 
-  told-ask : (b : Bool) (t : Talk) → Told true (ask_if b (live_at w.bank w) r p s t).value
+  told_ask : (b : Bool) (t : Talk) → Told true (ask_if b (live_at w.bank w) r p s t).value
   unfolding next
-  told-ask true t = told_same true r.here.strips
-  told-ask false t = told-change (same_as (live_at w.bank w) _) _ _ refl
+  told_ask true t = told_same true r.here.strips
+  told_ask false t = told_change (same_as (live_at w.bank w) _) _ _ refl
 
   told : (due : Bool) (t : Talk) → Told due (refresh_due due (live_at w.bank w) r p s t).value
   unfolding refresh_live
-  told true t = told-ask (eqb r.here.part.live 65535 || eqb r.here.part.device 65535) t
+  told true t = told_ask (eqb r.here.part.live 65535 || eqb r.here.part.device 65535) t
   told false t = told_same false r.here.strips
 
 -- ── the event ──
@@ -261,35 +261,35 @@ Books v i w a e answers r = Goes r.talk → Booked v i w a e answers r.value r.t
 begun : {P : List Asked → Type 0} (answers : List ℕ) (o : List Bool) (t : Talk) → Grown P (start answers o) t → t.opened ≡ opens (paired t.calls answers) o
 begun answers o t g = g.opened ∙ rw g.calls
 
-begun-fact : {P : List Asked → Type 0} (answers : List ℕ) (o : List Bool) (t : Talk) → Grown P (start answers o) t → P (paired t.calls answers)
-begun-fact answers o t g = rw g.calls g.fact
+begun_fact : {P : List Asked → Type 0} (answers : List ℕ) (o : List Bool) (t : Talk) → Grown P (start answers o) t → P (paired t.calls answers)
+begun_fact answers o t g = rw g.calls g.fact
 
 turn-summed : (d : Destination) (n : ℤ) (l : List Turn) → turn d n l ≡ summed d n l
 unfolding turn change summed
 turn-summed d n [] = refl
 turn-summed d n (x ∷ xs) = ap (λ (r : List Turn). pick (same_dest x.dest d) (add_to n x ∷ xs) (x ∷ r)) (turn-summed d n xs)
 
-turned-booked : (f : Found) (n : ℤ) (a : Account) →
+turned_booked : (f : Found) (n : ℤ) (a : Account) →
     desk a.marks a.last (map in_session a.line) (turn_to f n a.sums) ≡ desk_of (book_turn f n a)
-turned-booked (found.To d) n a = rw (turn-summed d n a.sums)
-turned-booked found.Nothing n a = refl
+turned_booked (found.To d) n a = rw (turn-summed d n a.sums)
+turned_booked found.Nothing n a = refl
 
-unmarked-booked : (b c : Bool) (a : Account) → b ≡ c → unmarked b (desk_of a) ≡ desk_of (book_press c a)
-unmarked-booked b true a e = rw e
-unmarked-booked b false a e = rw e
+unmarked_booked : (b c : Bool) (a : Account) → b ≡ c → unmarked b (desk_of a) ≡ desk_of (book_press c a)
+unmarked_booked b true a e = rw e
+unmarked_booked b false a e = rw e
 
-live-booked : (s c : Bool) (bank : ℕ) (r : Rig) (a : Account) → c ≡ not s →
+live_booked : (s c : Bool) (bank : ℕ) (r : Rig) (a : Account) → c ≡ not s →
     unmarked_at c bank (drained (desk_of a)) ≡ desk_of (book_live s bank (book_drain r a))
 unfolding drained
-live-booked true c bank r a e = rw e
-live-booked false c bank r a e = rw e
+live_booked true c bank r a e = rw e
+live_booked false c bank r a e = rw e
 
 -- over variables: in the tick itself `rw` would meet the runs inside the proofs' types
-then-drained : (r : Rig) (a : Account) (answers : List ℕ) (t u : Talk) →
+then_drained : (r : Rig) (a : Account) (answers : List ℕ) (t u : Talk) →
     Grown (Asked-by r a a.opened) (start answers a.opened) t → Grown (Only not_write) t u →
     Drained (paired u.calls answers) (drain_of r a)
-then-drained r a answers t u g l =
-    begun-fact {P = λ m. Drained m (drain_of r a)} answers a.opened u
+then_drained r a answers t u g l =
+    begun_fact {P = λ m. Drained m (drain_of r a)} answers a.opened u
     (join g l
     (λ m o.
     record {
@@ -302,9 +302,9 @@ then-drained r a answers t u g l =
       last = o;
     }))
 
-lives-after : (due : Bool) (now : Float) (x : Refreshed) (w : Site) → Placed w → Placed (site_after due now x w)
-lives-after false now x w h = h
-lives-after true now x w h = record { bank = h.bank; lives = go x.changed }
+lives_after_lem : (due : Bool) (now : Float) (x : Refreshed) (w : Site) → Placed w → Placed (site_after due now x w)
+lives_after_lem false now x w h = h
+lives_after_lem true now x w h = record { bank = h.bank; lives = go x.changed }
   where
     go : (b : Bool) → length (lives_after b w.bank x.strips w.lives) ≡ 16
     go true = length-set w.lives w.bank (some x.strips) ∙ h.lives
@@ -324,32 +324,32 @@ module _ (v : View) (i : ℕ) (w : Site) (l : Lamps) (s : List Hushed) (a : Acco
       let t₀ = start answers a.opened in
       let t₁ = drain (rig_in v w) (desk_of a) t₀ in
       let r = refresh_due due (live_at w.bank w) (rig_in v w) l (targets_of s) t₁ in
-      let k = (makes-tick_flash {K = not_write} refl refl (with_strips r.value.strips (rig_in v w)) (targets_of s) a.last now l).grown r.talk e in
-      let h = (makes-refresh {K = not_write} refl refl refl due (live_at w.bank w) (rig_in v w) l (targets_of s)).grown t₁ k.was in
-      let g = drain-ok (rig_in v w) a t₀ h.was in
-      let m = join {Q = Only not_write} h k (λ m o. only-append h.fact o) in
+      let k = (makes_tick_flash {K = not_write} refl refl (with_strips r.value.strips (rig_in v w)) (targets_of s) a.last now l).grown r.talk e in
+      let h = (makes_refresh {K = not_write} refl refl refl due (live_at w.bank w) (rig_in v w) l (targets_of s)).grown t₁ k.was in
+      let g = drain_ok (rig_in v w) a t₀ h.was in
+      let m = join {Q = Only not_write} h k (λ m o. only_append h.fact o) in
       record {
-        desk = live-booked (same_live (live_at w.bank w) _) r.value.changed w.bank (rig_in v w) a (told w now (rig_in v w) l (targets_of s) in_list due t₁);
+        desk = live_booked (same_live (live_at w.bank w) _) r.value.changed w.bank (rig_in v w) a (told w now (rig_in v w) l (targets_of s) in_list due t₁);
         opened = begun answers a.opened _ (join {Q = λ l. Unit {0}} g m (λ m o. tt));
-        drains = one_more (then-drained (rig_in v w) a answers t₁ _ g m) no_more;
+        drains = one_more (then_drained (rig_in v w) a answers t₁ _ g m) no_more;
         quiet = no_call;
-        placed = lives-after due now r.value w there;
+        placed = lives_after_lem due now r.value w there;
       }
 
-  midi-ok : (e : Event) → Books v i w a (input.Midi e) answers (on_midi e v kept_of now (start answers a.opened))
+  midi_ok : (e : Event) → Books v i w a (input.Midi e) answers (on_midi e v kept_of now (start answers a.opened))
   unfolding fader encoder next opens paired Moved selects
-  midi-ok (event.Fader ch x) e =
-      let g = fader-to (w.bank * 16 + ch) (record { id = i; channel = ch; level = x }) a answers (destination (rig_in v w) (ch + 1)) e in
+  midi_ok (event.Fader ch x) e =
+      let g = fader_to_lem (w.bank * 16 + ch) (record { id = i; channel = ch; level = x }) a answers (destination (rig_in v w) (ch + 1)) e in
       record {
         desk = g.fact.0;
         opened = begun answers a.opened _ g;
         drains = no_more;
-        quiet = begun-fact {P = Only not_write} answers a.opened _ (weaken (λ l f. f.1) g);
+        quiet = begun_fact {P = Only not_write} answers a.opened _ (weaken (λ l f. f.1) g);
         placed = there;
       }
-  midi-ok (event.Encoder ch n) e =
-      record { desk = turned-booked (encoder_dest (rig_in v w) (ch + 1)) n a; opened = refl; drains = no_more; quiet = no_call; placed = there }
-  midi-ok (event.Button b) e = at b.pressed e
+  midi_ok (event.Encoder ch n) e =
+      record { desk = turned_booked (encoder_dest (rig_in v w) (ch + 1)) n a; opened = refl; drains = no_more; quiet = no_call; placed = there }
+  midi_ok (event.Button b) e = at b.pressed e
     where
       at : (d : Bool) → Goes (on_button d v kept_of now b.note (start answers a.opened)).talk →
           Booked v i w a (input.Midi (event.Button (record { note = b.note; pressed = d }))) answers
@@ -357,29 +357,29 @@ module _ (v : View) (i : ℕ) (w : Site) (l : Lamps) (s : List Hushed) (a : Acco
           (on_button d v kept_of now b.note (start answers a.opened)).talk.calls
           (on_button d v kept_of now b.note (start answers a.opened)).talk.opened
       at true e =
-          let c = button-ok (press_at v kept_of now) few there.bank b.note in
+          let c = button_ok_lem (press_at v kept_of now) few there.bank b.note in
           let r = button b.note (press_at v kept_of now) (start answers a.opened) in
           let g = c.grown (start answers a.opened) e in
           record {
-            desk = unmarked-booked r.value.moved _ a (begun-fact answers a.opened r.talk g);
+            desk = unmarked_booked r.value.moved _ a (begun_fact answers a.opened r.talk g);
             opened = begun answers a.opened r.talk g;
             drains = no_more;
             quiet = no_call;
             placed = record { bank = c.bank (start answers a.opened); lives = there.lives };
           }
       at false e = record { desk = refl; opened = refl; drains = no_more; quiet = no_call; placed = there }
-  midi-ok event.Other e = record { desk = refl; opened = refl; drains = no_more; quiet = no_call; placed = there }
+  midi_ok event.Other e = record { desk = refl; opened = refl; drains = no_more; quiet = no_call; placed = there }
 
-  pub act-ok : (e : Input) → Books v i w a e answers (act e v kept_of now (start answers a.opened))
+  pub act_ok : (e : Input) → Books v i w a e answers (act e v kept_of now (start answers a.opened))
   unfolding act tick next
-  act-ok (input.Midi e) g = midi-ok e g
-  act-ok input.Tick g = tick-due (is_due w.due w.at now) g
-  act-ok input.PushState g =
-      let h = (makes-push {K = λ k. true} refl refl (rig_in v w) l (targets_of s)).grown (start answers a.opened) g in
+  act_ok (input.Midi e) g = midi_ok e g
+  act_ok input.Tick g = tick-due (is_due w.due w.at now) g
+  act_ok input.PushState g =
+      let h = (makes_push {K = λ k. true} refl refl (rig_in v w) l (targets_of s)).grown (start answers a.opened) g in
       record { desk = refl; opened = begun answers a.opened _ h; drains = no_more; quiet = no_call; placed = there }
-  act-ok input.PushTransport g =
-      let h = (makes-transport {K = λ k. true} refl refl (rig_in v w)).grown (start answers a.opened) g in
+  act_ok input.PushTransport g =
+      let h = (makes_transport {K = λ k. true} refl refl (rig_in v w)).grown (start answers a.opened) g in
       record { desk = refl; opened = begun answers a.opened _ h; drains = no_more; quiet = no_call; placed = there }
-  act-ok input.FlashBank g =
-      let h = (makes-flash_bank {K = λ k. true} refl refl (rig_in v w) (targets_of s) a.last now l).grown (start answers a.opened) g in
+  act_ok input.FlashBank g =
+      let h = (makes_flash_bank {K = λ k. true} refl refl (rig_in v w) (targets_of s) a.last now l).grown (start answers a.opened) g in
       record { desk = refl; opened = begun answers a.opened _ h; drains = no_more; quiet = no_call; placed = there }

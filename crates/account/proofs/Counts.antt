@@ -26,7 +26,7 @@ use Rattle.definition.specs.Rig.{Rig, destination, encoder_dest}
 use Rattle.definition.specs.Faders.{is_held}
 use Rattle.definition.specs.Step.{Site}
 use Rattle.account.specs.Account.{Past, Account, Waits, Tried, Drain, reading, rig_in, lined, replaced_by, book_if, book_move, summed, book_turn, book_press, press_moves, book_live, book_drain, book_event, drain_of, same_live, live_at, tried_of, try_at, dropped_of, drop_at, ids, tried_ids, tried, handed, bump, count, moves, move_at, move_in, if_found, if_same, sum_for, turn_in, turn_to}
-use Rattle.account.proofs.FloatEq.{beq-true, eq-cong}
+use Rattle.account.proofs.FloatEq.{beq_true, eq_cong}
 
 -- ── counting ──
 
@@ -76,15 +76,15 @@ unfolding tids
 map-append [] m = refl
 map-append (x ∷ l) m = ap (λ (r : List ℕ). x.id ∷ r) (map-append l m)
 
-tried-snoc : (l : List Drain) (d : Drain) → tried (l ++ (d ∷ [])) ≡ tried l ++ d.tried
+tried_snoc : (l : List Drain) (d : Drain) → tried (l ++ (d ∷ [])) ≡ tried l ++ d.tried
 unfolding tried
-tried-snoc [] d = append-nil d.tried
-tried-snoc (x ∷ l) d = rw (tried-snoc l d, append_assoc)
+tried_snoc [] d = append-nil d.tried
+tried_snoc (x ∷ l) d = rw (tried_snoc l d, append_assoc)
 
-tried_ids-snoc : (i : ℕ) (l : List Drain) (d : Drain) → count i (tried_ids (l ++ (d ∷ []))) ≡ count i (tried_ids l) + count i (tids d.tried)
+tried_ids_snoc : (i : ℕ) (l : List Drain) (d : Drain) → count i (tried_ids (l ++ (d ∷ []))) ≡ count i (tried_ids l) + count i (tids d.tried)
 unfolding tids
-tried_ids-snoc i l d =
-    ap (λ (r : List Tried). count i (map (λ t. t.id) r)) (tried-snoc l d) ∙ ap (count i) (map-append (tried l) d.tried) ∙ count-append i (tried_ids l) (tids d.tried)
+tried_ids_snoc i l d =
+    ap (λ (r : List Tried). count i (map (λ t. t.id) r)) (tried_snoc l d) ∙ ap (count i) (map-append (tried l) d.tried) ∙ count-append i (tried_ids l) (tids d.tried)
 
 -- ── one event ──
 
@@ -92,27 +92,27 @@ abbrev pub fates : Account → ℕ → ℕ
 fates a i =
     count i a.held + count i (ids a.line) + count i a.replaced + count i a.dropped + count i (tried_ids a.drains)
 
-booked-move : (b : Bool) (key : ℕ) (m : Waits) (a : Account) (i : ℕ) → fates (book_if b key m a) i ≡ fates a i + count i (m.id ∷ [])
-booked-move true key m a i = omega (arith, count-cons i m.id a.held)
-booked-move false key m a i = omega (arith, lined-count i m a.line, count-append i (replaced_by m a.line) a.replaced)
+booked_move : (b : Bool) (key : ℕ) (m : Waits) (a : Account) (i : ℕ) → fates (book_if b key m a) i ≡ fates a i + count i (m.id ∷ [])
+booked_move true key m a i = omega (arith, count-cons i m.id a.held)
+booked_move false key m a i = omega (arith, lined-count i m a.line, count-append i (replaced_by m a.line) a.replaced)
 
 fates-press : (b : Bool) (a : Account) (i : ℕ) → fates (book_press b a) i ≡ fates a i
 fates-press true a i = refl
 fates-press false a i = refl
 
-fates-live : (b : Bool) (bank : ℕ) (a : Account) (i : ℕ) → fates (book_live b bank a) i ≡ fates a i
-fates-live true bank a i = refl
-fates-live false bank a i = refl
+fates_live : (b : Bool) (bank : ℕ) (a : Account) (i : ℕ) → fates (book_live b bank a) i ≡ fates a i
+fates_live true bank a i = refl
+fates_live false bank a i = refl
 
 fates-drain : (r : Rig) (a : Account) (i : ℕ) → fates (book_drain r a) i ≡ fates a i
 unfolding count
 fates-drain r a i =
-    omega (arith, parted r i a.line, count-append i (dropped_of r a.line) a.dropped, tried_ids-snoc i a.drains (drain_of r a))
+    omega (arith, parted r i a.line, count-append i (dropped_of r a.line) a.dropped, tried_ids_snoc i a.drains (drain_of r a))
 
 module _ (v : View) (n : ℕ) (w z : Site) (answers : List ℕ) (asked : List Asked) (a : Account) (i : ℕ) where
-  pub fates-event : (e : Input) → fates (book_event v n e w z answers asked a) i ≡ fates a i + count i (move_in v n e w)
+  pub fates_event : (e : Input) → fates (book_event v n e w z answers asked a) i ≡ fates a i + count i (move_in v n e w)
   unfolding count
-  fates-event (input.Midi (event.Fader ch x)) = go (destination (rig_in v w) (ch + 1))
+  fates_event (input.Midi (event.Fader ch x)) = go (destination (rig_in v w) (ch + 1))
     where
       m : Waits
       m = record { id = n; channel = ch; level = x }
@@ -120,19 +120,19 @@ module _ (v : View) (n : ℕ) (w z : Site) (answers : List ℕ) (asked : List As
       go : (f : Found) → fates (book_move f (w.bank * 16 + ch) m answers a) i ≡ fates a i + count i (if_found f n)
       go found.Nothing = omega arith
       go (found.To d) =
-          booked-move ((d.takeover && not (is_marked (w.bank * 16 + ch) a.marks)) && is_held (reading d answers a.opened) (last_move (w.bank * 16 + ch) a.last) x) (w.bank * 16 + ch) m a i
-  fates-event (input.Midi (event.Encoder ch k)) = go (encoder_dest (rig_in v w) (ch + 1))
+          booked_move ((d.takeover && not (is_marked (w.bank * 16 + ch) a.marks)) && is_held (reading d answers a.opened) (last_move (w.bank * 16 + ch) a.last) x) (w.bank * 16 + ch) m a i
+  fates_event (input.Midi (event.Encoder ch k)) = go (encoder_dest (rig_in v w) (ch + 1))
     where
       go : (f : Found) → fates (book_turn f k a) i ≡ fates a i + 0
       go found.Nothing = omega arith
       go (found.To d) = omega arith
-  fates-event (input.Midi (event.Button b)) = omega (arith, fates-press (press_moves v w b.pressed b.note asked) a i)
-  fates-event (input.Midi event.Other) = omega arith
-  fates-event input.Tick =
-      omega (arith, fates-live (same_live (live_at w.bank w) (live_at w.bank z)) w.bank (book_drain (rig_in v w) a) i, fates-drain (rig_in v w) a i)
-  fates-event input.PushState = omega arith
-  fates-event input.PushTransport = omega arith
-  fates-event input.FlashBank = omega arith
+  fates_event (input.Midi (event.Button b)) = omega (arith, fates-press (press_moves v w b.pressed b.note asked) a i)
+  fates_event (input.Midi event.Other) = omega arith
+  fates_event input.Tick =
+      omega (arith, fates_live (same_live (live_at w.bank w) (live_at w.bank z)) w.bank (book_drain (rig_in v w) a) i, fates-drain (rig_in v w) a i)
+  fates_event input.PushState = omega arith
+  fates_event input.PushTransport = omega arith
+  fates_event input.FlashBank = omega arith
 
 -- ── a move is one event's ──
 
@@ -157,10 +157,10 @@ module _ (v : View) (n i : ℕ) where
       go input.PushTransport = refl
       go input.FlashBank = refl
 
-  once-of : (x : Option Past) → count i (move_at v n x) ≤ 1
+  once_of : (x : Option Past) → count i (move_at v n x) ≤ 1
   unfolding count
-  once-of none = omega arith
-  once-of (some x) = go x.what
+  once_of none = omega arith
+  once_of (some x) = go x.what
     where
       bit : (b : Bool) → bump b 0 ≤ 1
       bit true = omega arith
@@ -186,24 +186,24 @@ moves-below v n i [] h = refl
 moves-below v n i (x ∷ xs) h =
     omega (arith, count-append i (move_at v n x) (moves v (suc n) xs), other_none v n i (λ e. omega arith) x, moves-below v (suc n) i xs (omega arith))
 
-pub moves-once : (v : View) (n i : ℕ) (xs : List (Option Past)) → count i (moves v n xs) ≤ 1
+pub moves_once : (v : View) (n i : ℕ) (xs : List (Option Past)) → count i (moves v n xs) ≤ 1
 unfolding moves count
-moves-once v n i [] = omega arith
-moves-once v n i (x ∷ xs) = go (eqb i n) refl (moves-once v (suc n) i xs)
+moves_once v n i [] = omega arith
+moves_once v n i (x ∷ xs) = go (eqb i n) refl (moves_once v (suc n) i xs)
   where
     go : (b : Bool) → eqb i n ≡ b → count i (moves v (suc n) xs) ≤ 1 → count i (move_at v n x ++ moves v (suc n) xs) ≤ 1
     go true e ih =
         let q : i ≡ n = eqb-true i n e in
-        omega (arith, count-append i (move_at v n x) (moves v (suc n) xs), once-of v n i x, moves-below v (suc n) i xs (omega arith))
+        omega (arith, count-append i (move_at v n x) (moves v (suc n) xs), once_of v n i x, moves-below v (suc n) i xs (omega arith))
     go false e ih =
         omega (arith, count-append i (move_at v n x) (moves v (suc n) xs), other_none v n i (eqb-false i n e) x)
 
 -- ── turns ──
 
 -- all that the sums need of the test: destinations that are the same are the same as the same ones
-pub same-cong : (a b d : Destination) → same_dest a b ≡ true → same_dest a d ≡ same_dest b d
+pub same_cong : (a b d : Destination) → same_dest a b ≡ true → same_dest a d ≡ same_dest b d
 unfolding same_dest every
-same-cong a b d e =
+same_cong a b d e =
     let e₁ = and_right (eqb a.driver b.driver) _ e in
     let e₂ = and_right (eqb a.target b.target) _ e₁ in
     let e₃ = and_right (eqb a.label b.label) _ e₂ in
@@ -215,38 +215,38 @@ same-cong a b d e =
     let p₃ : a.label ≡ b.label = eqb-true a.label b.label (and_left (eqb a.label b.label) _ e₂) in
     let p₄ : a.group ≡ b.group = eqb-true a.group b.group (and_left (eqb a.group b.group) _ e₃) in
     let p₅ : a.mute ≡ b.mute = eqb-true a.mute b.mute (and_left (eqb a.mute b.mute) _ e₄) in
-    let p₆ : a.takeover ≡ b.takeover = beq-true a.takeover b.takeover (and_left (beq a.takeover b.takeover) _ e₅) in
-    let q₁ : eq a.low d.low ≡ eq b.low d.low = eq-cong a.low b.low d.low (and_left (eq a.low b.low) (eq a.high b.high) e₆) in
-    let q₂ : eq a.high d.high ≡ eq b.high d.high = eq-cong a.high b.high d.high (and_right (eq a.low b.low) (eq a.high b.high) e₆) in
+    let p₆ : a.takeover ≡ b.takeover = beq_true a.takeover b.takeover (and_left (beq a.takeover b.takeover) _ e₅) in
+    let q₁ : eq a.low d.low ≡ eq b.low d.low = eq_cong a.low b.low d.low (and_left (eq a.low b.low) (eq a.high b.high) e₆) in
+    let q₂ : eq a.high d.high ≡ eq b.high d.high = eq_cong a.high b.high d.high (and_right (eq a.low b.low) (eq a.high b.high) e₆) in
     rw (p₁, p₂, p₃, p₄, p₅, p₆, q₁, q₂)
 
-pub sum-append : (d : Destination) (l m : List Turn) → sum_for d (l ++ m) ≡ sum_for d l +ℤ sum_for d m
+pub sum_append : (d : Destination) (l m : List Turn) → sum_for d (l ++ m) ≡ sum_for d l +ℤ sum_for d m
 unfolding sum_for
-sum-append d [] m = sym (+ℤ_idl _)
-sum-append d (x ∷ l) m = rw (sum-append d l m, +ℤ_assoc)
+sum_append d [] m = sym (+ℤ_idl _)
+sum_append d (x ∷ l) m = rw (sum_append d l m, +ℤ_assoc)
 
-if-same : (b : Bool) (m n : ℤ) → if_same b (m +ℤ n) ≡ if_same b m +ℤ if_same b n
-if-same true m n = refl
-if-same false m n = refl
+if_same_lem : (b : Bool) (m n : ℤ) → if_same b (m +ℤ n) ≡ if_same b m +ℤ if_same b n
+if_same_lem true m n = refl
+if_same_lem false m n = refl
 
 swap : (a b c : ℤ) → (a +ℤ b) +ℤ c ≡ (a +ℤ c) +ℤ b
 swap a b c = rw (+ℤ_assoc, +ℤ_comm b c, ← +ℤ_assoc)
 
 -- a turn adds to its destination's sum and to no other
-sum-summed : (d e : Destination) (n : ℤ) (l : List Turn) → sum_for d (summed e n l) ≡ sum_for d l +ℤ if_same (same_dest e d) n
+sum_summed : (d e : Destination) (n : ℤ) (l : List Turn) → sum_for d (summed e n l) ≡ sum_for d l +ℤ if_same (same_dest e d) n
 unfolding sum_for summed
-sum-summed d e n [] = +ℤ_comm (if_same (same_dest e d) n) (pos 0)
-sum-summed d e n (x ∷ xs) = go (same_dest x.dest e) refl (sum-summed d e n xs)
+sum_summed d e n [] = +ℤ_comm (if_same (same_dest e d) n) (pos 0)
+sum_summed d e n (x ∷ xs) = go (same_dest x.dest e) refl (sum_summed d e n xs)
   where
     go : (b : Bool) → same_dest x.dest e ≡ b → sum_for d (summed e n xs) ≡ sum_for d xs +ℤ if_same (same_dest e d) n →
         sum_for d (pick b (add_to n x ∷ xs) (x ∷ summed e n xs)) ≡ sum_for d (x ∷ xs) +ℤ if_same (same_dest e d) n
-    go true t ih = rw (same-cong x.dest e d t, if-same, swap)
+    go true t ih = rw (same_cong x.dest e d t, if_same_lem, swap)
     go false t ih = rw (ih, +ℤ_assoc)
 
-handed-snoc : (l : List Drain) (x : Drain) → handed (l ++ (x ∷ [])) ≡ handed l ++ x.sums
+handed_snoc : (l : List Drain) (x : Drain) → handed (l ++ (x ∷ [])) ≡ handed l ++ x.sums
 unfolding handed
-handed-snoc [] x = append-nil x.sums
-handed-snoc (y ∷ l) x = rw (handed-snoc l x, append_assoc)
+handed_snoc [] x = append-nil x.sums
+handed_snoc (y ∷ l) x = rw (handed_snoc l x, append_assoc)
 
 -- handed over and waiting, of one destination
 abbrev pub total : Account → Destination → ℤ
@@ -256,22 +256,22 @@ total-press : (b : Bool) (a : Account) (d : Destination) → total (book_press b
 total-press true a d = refl
 total-press false a d = refl
 
-total-live : (b : Bool) (bank : ℕ) (a : Account) (d : Destination) → total (book_live b bank a) d ≡ total a d
-total-live true bank a d = refl
-total-live false bank a d = refl
+total_live : (b : Bool) (bank : ℕ) (a : Account) (d : Destination) → total (book_live b bank a) d ≡ total a d
+total_live true bank a d = refl
+total_live false bank a d = refl
 
 total-drain : (r : Rig) (a : Account) (d : Destination) → total (book_drain r a) d ≡ total a d
 unfolding sum_for
-total-drain r a d = +ℤ_idr _ ∙ ap (sum_for d) (handed-snoc a.drains (drain_of r a)) ∙ sum-append d (handed a.drains) a.sums
+total-drain r a d = +ℤ_idr _ ∙ ap (sum_for d) (handed_snoc a.drains (drain_of r a)) ∙ sum_append d (handed a.drains) a.sums
 
 total-move : (b : Bool) (key : ℕ) (m : Waits) (a : Account) (d : Destination) → total (book_if b key m a) d ≡ total a d
 total-move true key m a d = refl
 total-move false key m a d = refl
 
 module _ (v : View) (n : ℕ) (w z : Site) (answers : List ℕ) (asked : List Asked) (a : Account) (d : Destination) where
-  pub total-event : (e : Input) → total (book_event v n e w z answers asked a) d ≡ total a d +ℤ sum_for d (turn_in v e w)
+  pub total_event : (e : Input) → total (book_event v n e w z answers asked a) d ≡ total a d +ℤ sum_for d (turn_in v e w)
   unfolding sum_for
-  total-event (input.Midi (event.Fader ch x)) = go (destination (rig_in v w) (ch + 1)) ∙ sym (+ℤ_idr _)
+  total_event (input.Midi (event.Fader ch x)) = go (destination (rig_in v w) (ch + 1)) ∙ sym (+ℤ_idr _)
     where
       m : Waits
       m = record { id = n; channel = ch; level = x }
@@ -280,15 +280,15 @@ module _ (v : View) (n : ℕ) (w z : Site) (answers : List ℕ) (asked : List As
       go found.Nothing = refl
       go (found.To y) =
           total-move ((y.takeover && not (is_marked (w.bank * 16 + ch) a.marks)) && is_held (reading y answers a.opened) (last_move (w.bank * 16 + ch) a.last) x) (w.bank * 16 + ch) m a d
-  total-event (input.Midi (event.Encoder ch k)) = go (encoder_dest (rig_in v w) (ch + 1))
+  total_event (input.Midi (event.Encoder ch k)) = go (encoder_dest (rig_in v w) (ch + 1))
     where
       go : (f : Found) → total (book_turn f k a) d ≡ total a d +ℤ sum_for d (turn_to f k)
       go found.Nothing = sym (+ℤ_idr _)
-      go (found.To x) = rw (sum-summed d x k a.sums, +ℤ_idr, ← +ℤ_assoc)
-  total-event (input.Midi (event.Button b)) = total-press (press_moves v w b.pressed b.note asked) a d ∙ sym (+ℤ_idr _)
-  total-event (input.Midi event.Other) = sym (+ℤ_idr _)
-  total-event input.Tick =
-      total-live (same_live (live_at w.bank w) (live_at w.bank z)) w.bank (book_drain (rig_in v w) a) d ∙ total-drain (rig_in v w) a d ∙ sym (+ℤ_idr _)
-  total-event input.PushState = sym (+ℤ_idr _)
-  total-event input.PushTransport = sym (+ℤ_idr _)
-  total-event input.FlashBank = sym (+ℤ_idr _)
+      go (found.To x) = rw (sum_summed d x k a.sums, +ℤ_idr, ← +ℤ_assoc)
+  total_event (input.Midi (event.Button b)) = total-press (press_moves v w b.pressed b.note asked) a d ∙ sym (+ℤ_idr _)
+  total_event (input.Midi event.Other) = sym (+ℤ_idr _)
+  total_event input.Tick =
+      total_live (same_live (live_at w.bank w) (live_at w.bank z)) w.bank (book_drain (rig_in v w) a) d ∙ total-drain (rig_in v w) a d ∙ sym (+ℤ_idr _)
+  total_event input.PushState = sym (+ℤ_idr _)
+  total_event input.PushTransport = sym (+ℤ_idr _)
+  total_event input.FlashBank = sym (+ℤ_idr _)

@@ -35,7 +35,7 @@ use Rattle.definition.specs.Lamps.{send_level, position_for, push_position, mute
 use Rattle.definition.specs.Flash.{phases, phases_to, send_home, finish_if, finish_flash, show_number, flash_number, flash_bank, end_if, tick_if, tick_flash}
 use Rattle.definition.specs.Live.{change_if, ask_if, refresh_live, refresh_due, same_as}
 use Rattle.account.specs.Account.{Uses, used, opened-used, not-used, Only, no_call, one-call}
-use Rattle.account.proofs.Grown.{Grown, Goes, same, weaken, join, send-ok, Opening, was-open, opens-now, stays-shut, open-ok, use-ok}
+use Rattle.account.proofs.Grown.{Grown, Goes, same, weaken, join, send_ok, Opening, was-open, opens_now_lem, stays-shut, open_ok, use_ok}
 
 pub record Makes (K : ℕ → Bool) (f : Talk → Talk) : Type 0 where
   pub grown : (t : Talk) → Goes (f t) → Grown (Only K) t (f t)
@@ -45,9 +45,9 @@ module _ {A : Type 0} where
   pub record Asks (K : ℕ → Bool) (m : Act A) : Type 0 where
     pub grown : (t : Talk) → Goes (m t).talk → Grown (Only K) t (m t).talk
 
-pub only-append : {K : ℕ → Bool} {l m : List Asked} → Only K l → Only K m → Only K (l ++ m)
-only-append no_call h = h
-only-append (one-call e g) h = one-call e (only-append g h)
+pub only_append : {K : ℕ → Bool} {l m : List Asked} → Only K l → Only K m → Only K (l ++ m)
+only_append no_call h = h
+only_append (one-call e g) h = one-call e (only_append g h)
 
 -- ── the rules ──
 
@@ -56,7 +56,7 @@ module _ {K : ℕ → Bool} where
   stay = record { grown = λ t g. same (Only K) t g no_call }
 
   pub says : (out : Out) → Makes K (send out)
-  says out = record { grown = λ t g. send-ok (Only K) out t no_call g }
+  says out = record { grown = λ t g. send_ok (Only K) out t no_call g }
 
   -- f, and then g
   pub after : {g f : Talk → Talk} → Makes K g → Makes K f → Makes K (λ t. g (f t))
@@ -65,7 +65,7 @@ module _ {K : ℕ → Bool} where
         grown = λ t e.
             let b = h.grown (f t) e in
             let a = k.grown t b.was in
-            join a b (λ m o. only-append a.fact o);
+            join a b (λ m o. only_append a.fact o);
       }
 
 module _ {K : ℕ → Bool} {A : Type 0} where
@@ -88,7 +88,7 @@ module _ {K : ℕ → Bool} {A : Type 0} where
         grown = λ t e.
             let b = (k (m t).value).grown (m t).talk e in
             let a = h.grown t b.was in
-            join a b (λ l o. only-append a.fact o);
+            join a b (λ l o. only_append a.fact o);
       }
 
 module _ {K : ℕ → Bool} {A B : Type 0} where
@@ -99,176 +99,176 @@ module _ {K : ℕ → Bool} {A B : Type 0} where
         grown = λ t e.
             let b = (k (m t).value).grown (m t).talk e in
             let a = h.grown t b.was in
-            join a b (λ l o. only-append a.fact o);
+            join a b (λ l o. only_append a.fact o);
       }
 
 module _ {K : ℕ → Bool} where
   -- ── the calls ──
   module _ (o : K 0 ≡ true) where
-    pub makes-open : (driver name : ℕ) → Asks K (open_for driver name)
+    pub makes_open : (driver name : ℕ) → Asks K (open_for driver name)
     unfolding plain_call
-    makes-open driver name = record { grown = λ t g. weaken (λ l u. at u) (open-ok driver name t g) }
+    makes_open driver name = record { grown = λ t g. weaken (λ l u. at u) (open_ok driver name t g) }
       where
         at : {p : List Bool} {b : Bool} {l : List Asked} → Opening p driver name b l → Only K l
         at (was-open n) = no_call
-        at (opens-now n) = one-call o no_call
+        at (opens_now_lem n) = one-call o no_call
         at (stays-shut n) = one-call o no_call
 
-    pub makes-use : (c : Call) → eqb c.kind 0 ≡ false → K c.kind ≡ true → Asks K (use_call c)
+    pub makes_use : (c : Call) → eqb c.kind 0 ≡ false → K c.kind ≡ true → Asks K (use_call c)
     unfolding plain_call
-    makes-use c z e = record { grown = λ t g. weaken (λ l u. at u) (use-ok c z t g) }
+    makes_use c z e = record { grown = λ t g. weaken (λ l u. at u) (use_ok c z t g) }
       where
         at : {p : List Bool} {r : Reply} {l : List Asked} → Uses p c r l → Only K l
         at (used n) = one-call e no_call
         at (opened-used n) = one-call o (one-call e no_call)
         at (not-used n) = one-call o no_call
 
-    pub makes-done : (c : Call) → eqb c.kind 0 ≡ false → K c.kind ≡ true → Asks K (use_done c)
+    pub makes_done : (c : Call) → eqb c.kind 0 ≡ false → K c.kind ≡ true → Asks K (use_done c)
     unfolding use_done
-    makes-done c z e = bind (makes-use c z e) (λ r. still)
+    makes_done c z e = bind (makes_use c z e) (λ r. still)
 
     -- ── what reads only ──
     module _ (r : K 1 ≡ true) where
-      pub makes-read_of : (driver name : ℕ) → Asks K (read_of driver name)
+      pub makes_read_of : (driver name : ℕ) → Asks K (read_of driver name)
       unfolding read_of plain_call
-      makes-read_of driver name = bind (makes-use (plain_call 1 driver name 0) refl r) (λ x. still)
+      makes_read_of driver name = bind (makes_use (plain_call 1 driver name 0) refl r) (λ x. still)
 
-      pub makes-read : (d : Destination) → Asks K (read d)
+      pub makes_read : (d : Destination) → Asks K (read d)
       unfolding read
-      makes-read d = bind (makes-read_of d.driver d.target) (λ x. still)
+      makes_read d = bind (makes_read_of d.driver d.target) (λ x. still)
 
-      pub makes-read_mute : (d : Destination) → Asks K (read_mute d)
+      pub makes_read_mute : (d : Destination) → Asks K (read_mute d)
       unfolding read_mute
-      makes-read_mute d = bind (makes-read_of d.driver d.mute) (λ x. still)
+      makes_read_mute d = bind (makes_read_of d.driver d.mute) (λ x. still)
 
-      makes-level : (ch : ℕ) (x : Level) → Makes K (send_level ch x)
-      makes-level ch (At x) = says (sent_to ch x)
-      makes-level ch Unknown = stay
+      makes_level : (ch : ℕ) (x : Level) → Makes K (send_level ch x)
+      makes_level ch (At x) = says (sent_to ch x)
+      makes_level ch Unknown = stay
 
-      makes-position : (b : Bool) (ch : ℕ) (d : Found) → Makes K (position_for b ch d)
-      makes-position true ch (found.To d) = onto {m = read d} (makes-read d) (makes-level ch)
-      makes-position true ch found.Nothing = stay
-      makes-position false ch d = stay
+      makes_position : (b : Bool) (ch : ℕ) (d : Found) → Makes K (position_for b ch d)
+      makes_position true ch (found.To d) = onto {m = read d} (makes_read d) (makes_level ch)
+      makes_position true ch found.Nothing = stay
+      makes_position false ch d = stay
 
-      makes-muted_if : (b : Bool) (d : Destination) (s : List ℕ) → Asks K (muted_if b d s)
-      makes-muted_if true d s = bind (makes-read_mute d) (λ m. still)
-      makes-muted_if false d s = still
+      makes_muted_if : (b : Bool) (d : Destination) (s : List ℕ) → Asks K (muted_if b d s)
+      makes_muted_if true d s = bind (makes_read_mute d) (λ m. still)
+      makes_muted_if false d s = still
 
-      pub makes-muted_to : (d : Found) (s : List ℕ) → Asks K (muted_to d s)
-      makes-muted_to (found.To d) s = makes-muted_if (has_mute d) d s
-      makes-muted_to found.Nothing s = still
+      pub makes_muted_to : (d : Found) (s : List ℕ) → Asks K (muted_to d s)
+      makes_muted_to (found.To d) s = makes_muted_if (has_mute d) d s
+      makes_muted_to found.Nothing s = still
 
-      makes-four : (x : Rig) (l : Lamps) (ch : ℕ) (b : Bool) → Makes K (four_lamps x l ch b)
-      makes-four x l ch b = after (says _) (after (says _) (after (says _) (says _)))
+      makes_four : (x : Rig) (l : Lamps) (ch : ℕ) (b : Bool) → Makes K (four_lamps x l ch b)
+      makes_four x l ch b = after (says _) (after (says _) (after (says _) (says _)))
 
-      makes-fader : (x : Rig) (l : Lamps) (s : List ℕ) (ch : ℕ) → Makes K (push_fader x l s ch)
+      makes_fader : (x : Rig) (l : Lamps) (s : List ℕ) (ch : ℕ) → Makes K (push_fader x l s ch)
       unfolding push_fader is_muted push_position
-      makes-fader x l s ch =
+      makes_fader x l s ch =
           after
-          (onto {m = muted_to (destination x (ch + 1)) s} {g = four_lamps x l ch} (makes-muted_to (destination x (ch + 1)) s) (makes-four x l ch))
-          (makes-position x.positions ch (destination x (ch + 1)))
+          (onto {m = muted_to (destination x (ch + 1)) s} {g = four_lamps x l ch} (makes_muted_to (destination x (ch + 1)) s) (makes_four x l ch))
+          (makes_position x.positions ch (destination x (ch + 1)))
 
-      makes-faders : (x : Rig) (l : Lamps) (s : List ℕ) (n : ℕ) → Makes K (push_faders x l s n)
+      makes_faders : (x : Rig) (l : Lamps) (s : List ℕ) (n : ℕ) → Makes K (push_faders x l s n)
       unfolding push_faders
-      makes-faders x l s zero = stay
-      makes-faders x l s (suc n) = after (makes-fader x l s n) (makes-faders x l s n)
+      makes_faders x l s zero = stay
+      makes_faders x l s (suc n) = after (makes_fader x l s n) (makes_faders x l s n)
 
-      pub makes-push : (x : Rig) (l : Lamps) (s : List ℕ) → Makes K (push_state x l s)
+      pub makes_push : (x : Rig) (l : Lamps) (s : List ℕ) → Makes K (push_state x l s)
       unfolding push_state
-      makes-push x l s = makes-faders x l s 8
+      makes_push x l s = makes_faders x l s 8
 
       -- ── the flash ──
-      makes-phases : (f : Flash) (n : ℕ) → Makes K (phases f n)
+      makes_phases : (f : Flash) (n : ℕ) → Makes K (phases f n)
       unfolding phases
-      makes-phases f zero = stay
-      makes-phases f (suc n) = after (says _) (makes-phases f n)
+      makes_phases f zero = stay
+      makes_phases f (suc n) = after (says _) (makes_phases f n)
 
-      makes-home : (x : Rig) (m : Moves) (row : ℕ) → Makes K (send_home x m row)
+      makes_home : (x : Rig) (m : Moves) (row : ℕ) → Makes K (send_home x m row)
       unfolding send_home
-      makes-home x m row = makes-level row (last_move (x.here.bank * 16 + row) m)
+      makes_home x m row = makes_level row (last_move (x.here.bank * 16 + row) m)
 
-      makes-finish_if : (b : Bool) (x : Rig) (l : Lamps) (s : List ℕ) (m : Moves) → Makes K (finish_if b x l s m)
+      makes_finish_if : (b : Bool) (x : Rig) (l : Lamps) (s : List ℕ) (m : Moves) → Makes K (finish_if b x l s m)
       unfolding phases_to
-      makes-finish_if true x l s m =
-          after (makes-push x l s) (after (makes-home x m l.flash.row) (makes-phases l.flash (6 - l.flash.sent)))
-      makes-finish_if false x l s m = stay
+      makes_finish_if true x l s m =
+          after (makes_push x l s) (after (makes_home x m l.flash.row) (makes_phases l.flash (6 - l.flash.sent)))
+      makes_finish_if false x l s m = stay
 
-      makes-finish : (x : Rig) (l : Lamps) (s : List ℕ) (m : Moves) → Makes K (finish_flash x l s m)
+      makes_finish : (x : Rig) (l : Lamps) (s : List ℕ) (m : Moves) → Makes K (finish_flash x l s m)
       unfolding finish_flash
-      makes-finish x l s m = makes-finish_if l.flash.on x l s m
+      makes_finish x l s m = makes_finish_if l.flash.on x l s m
 
-      makes-show : (b : Bool) (now : Float) (n base : ℕ) (l : Lamps) → Asks K (show_number b now n base l)
-      makes-show true now n base l = still
-      makes-show false now n base l = giving (after (says _) (says _))
+      makes_show : (b : Bool) (now : Float) (n base : ℕ) (l : Lamps) → Asks K (show_number b now n base l)
+      makes_show true now n base l = still
+      makes_show false now n base l = giving (after (says _) (says _))
 
-      pub makes-number : (x : Rig) (s : List ℕ) (m : Moves) (now : Float) (n base : ℕ) (l : Lamps) →
+      pub makes_number : (x : Rig) (s : List ℕ) (m : Moves) (now : Float) (n base : ℕ) (l : Lamps) →
           Asks K (flash_number x s m now n base l)
       unfolding flash_number
-      makes-number x s m now n base l = behind (makes-show (leb 64 n) now n base l) (makes-finish x l s m)
+      makes_number x s m now n base l = behind (makes_show (leb 64 n) now n base l) (makes_finish x l s m)
 
-      pub makes-flash_bank : (x : Rig) (s : List ℕ) (m : Moves) (now : Float) (l : Lamps) →
+      pub makes_flash_bank : (x : Rig) (s : List ℕ) (m : Moves) (now : Float) (l : Lamps) →
           Asks K (flash_bank x s m now l)
       unfolding flash_bank
-      makes-flash_bank x s m now l = makes-number x s m now x.here.bank 0 l
+      makes_flash_bank x s m now l = makes_number x s m now x.here.bank 0 l
 
-      makes-end_if : (b : Bool) (x : Rig) (s : List ℕ) (m : Moves) (l : Lamps) → Asks K (end_if b x s m l)
-      makes-end_if true x s m l = giving (makes-finish x l s m)
-      makes-end_if false x s m l = still
+      makes_end_if : (b : Bool) (x : Rig) (s : List ℕ) (m : Moves) (l : Lamps) → Asks K (end_if b x s m l)
+      makes_end_if true x s m l = giving (makes_finish x l s m)
+      makes_end_if false x s m l = still
 
-      makes-tick_if : (b : Bool) (x : Rig) (s : List ℕ) (m : Moves) (now : Float) (l : Lamps) → Asks K (tick_if b x s m now l)
+      makes_tick_if : (b : Bool) (x : Rig) (s : List ℕ) (m : Moves) (now : Float) (l : Lamps) → Asks K (tick_if b x s m now l)
       unfolding phases_to
-      makes-tick_if true x s m now l =
-          behind (makes-end_if (flash_over now l.flash.start) x s m _) (makes-phases l.flash (due_of now l.flash.start - l.flash.sent))
-      makes-tick_if false x s m now l = still
+      makes_tick_if true x s m now l =
+          behind (makes_end_if (flash_over now l.flash.start) x s m _) (makes_phases l.flash (due_of now l.flash.start - l.flash.sent))
+      makes_tick_if false x s m now l = still
 
-      pub makes-tick_flash : (x : Rig) (s : List ℕ) (m : Moves) (now : Float) (l : Lamps) →
+      pub makes_tick_flash : (x : Rig) (s : List ℕ) (m : Moves) (now : Float) (l : Lamps) →
           Asks K (tick_flash x s m now l)
       unfolding tick_flash
-      makes-tick_flash x s m now l = makes-tick_if l.flash.on x s m now l
+      makes_tick_flash x s m now l = makes_tick_if l.flash.on x s m now l
 
       -- ── a live bank ──
       module _ (v : K 9 ≡ true) where
-        makes-change_if : (b : Bool) (l : List Strip) (x : Rig) (p : Lamps) (s : List ℕ) → Asks K (change_if b l x p s)
-        makes-change_if true l x p s = still
-        makes-change_if false l x p s = giving (makes-push (with_strips l x) p s)
+        makes_change_if : (b : Bool) (l : List Strip) (x : Rig) (p : Lamps) (s : List ℕ) → Asks K (change_if b l x p s)
+        makes_change_if true l x p s = still
+        makes_change_if false l x p s = giving (makes_push (with_strips l x) p s)
 
-        makes-live_of : (driver which : ℕ) → Asks K (live_of driver which)
+        makes_live_of : (driver which : ℕ) → Asks K (live_of driver which)
         unfolding live_of plain_call
-        makes-live_of driver which = bind (makes-use (plain_call 9 driver 0 which) refl v) (λ x. still)
+        makes_live_of driver which = bind (makes_use (plain_call 9 driver 0 which) refl v) (λ x. still)
 
-        makes-ask_if : (b : Bool) (known : Option (List Strip)) (x : Rig) (p : Lamps) (s : List ℕ) → Asks K (ask_if b known x p s)
-        makes-ask_if true known x p s = still
-        makes-ask_if false known x p s =
-            bind (makes-live_of x.here.part.device x.here.part.live) (λ l. makes-change_if (same_as known _) _ x p s)
+        makes_ask_if : (b : Bool) (known : Option (List Strip)) (x : Rig) (p : Lamps) (s : List ℕ) → Asks K (ask_if b known x p s)
+        makes_ask_if true known x p s = still
+        makes_ask_if false known x p s =
+            bind (makes_live_of x.here.part.device x.here.part.live) (λ l. makes_change_if (same_as known _) _ x p s)
 
-        pub makes-refresh : (b : Bool) (known : Option (List Strip)) (x : Rig) (p : Lamps) (s : List ℕ) →
+        pub makes_refresh : (b : Bool) (known : Option (List Strip)) (x : Rig) (p : Lamps) (s : List ℕ) →
             Asks K (refresh_due b known x p s)
         unfolding refresh_live
-        makes-refresh true known x p s =
-            makes-ask_if (eqb x.here.part.live 65535 || eqb x.here.part.device 65535) known x p s
-        makes-refresh false known x p s = still
+        makes_refresh true known x p s =
+            makes_ask_if (eqb x.here.part.live 65535 || eqb x.here.part.device 65535) known x p s
+        makes_refresh false known x p s = still
 
     -- ── transport lamps ──
     module _ (p : K 5 ≡ true) where
-      makes-playing : (driver name : ℕ) → Asks K (playing_of driver name)
+      makes_playing : (driver name : ℕ) → Asks K (playing_of driver name)
       unfolding playing_of plain_call
-      makes-playing driver name = bind (makes-use (plain_call 5 driver name 0) refl p) (λ x. still)
+      makes_playing driver name = bind (makes_use (plain_call 5 driver name 0) refl p) (λ x. still)
 
-      makes-meet : (k : Option Player) (c : Command) (known : List Player) (n : ℕ) → Asks K (meet_if k c known n)
-      makes-meet (some x) c known n = giving (says _)
-      makes-meet none c known n = bind (makes-playing c.driver c.target) (λ b. giving (says _))
+      makes_meet : (k : Option Player) (c : Command) (known : List Player) (n : ℕ) → Asks K (meet_if k c known n)
+      makes_meet (some x) c known n = giving (says _)
+      makes_meet none c known n = bind (makes_playing c.driver c.target) (λ b. giving (says _))
 
-      makes-lamp_for : (n : notes.Found) (c : Command) (known : List Player) → Asks K (lamp_for n c known)
-      makes-lamp_for (note.At n) c known = makes-meet (find (is_player c) known) c known n
-      makes-lamp_for note.Nothing c known = still
+      makes_lamp_for : (n : notes.Found) (c : Command) (known : List Player) → Asks K (lamp_for n c known)
+      makes_lamp_for (note.At n) c known = makes_meet (find (is_player c) known) c known n
+      makes_lamp_for note.Nothing c known = still
 
-      makes-bound : (l : List Entry) (known : List Player) → Makes K (push_bound l known)
+      makes_bound : (l : List Entry) (known : List Player) → Makes K (push_bound l known)
       unfolding push_bound
-      makes-bound [] known = stay
-      makes-bound (e ∷ l) known =
+      makes_bound [] known = stay
+      makes_bound (e ∷ l) known =
           onto {m = lamp_for (transport_note e.kind) e.command known} {g = push_bound l}
-          (makes-lamp_for (transport_note e.kind) e.command known) (λ k. makes-bound l k)
+          (makes_lamp_for (transport_note e.kind) e.command known) (λ k. makes_bound l k)
 
-      pub makes-transport : (x : Rig) → Makes K (push_transport x)
+      pub makes_transport : (x : Rig) → Makes K (push_transport x)
       unfolding push_transport
-      makes-transport x = makes-bound (merged x.globals.transports x.here.part.transports) []
+      makes_transport x = makes_bound (merged x.globals.transports x.here.part.transports) []

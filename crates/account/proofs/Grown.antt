@@ -11,7 +11,7 @@ use Rattle.protocol.specs.declared.Out.{Out}
 use Rattle.drivers.specs.Answers.{answer_of, to_other, item_count, items_of, is_unfit, is_done}
 use Rattle.drivers.specs.Talk.{Stop, going, waits, declined, overrun, Talk, Got, next, Reply, no_reply, ask, ask_at, ask_room, ask_left, ask_fit, is_open, opening, plain_call, open_for, open_if, opened_by, ask_if, use_call, send, send_at, send_room}
 use Rattle.drivers.specs.Paired.{Asked, reply_to, behind, after, paired}
-use Rattle.drivers.specs.PairedLaws.{after-append, paired-append, waits-on, declined-on, overrun-on}
+use Rattle.drivers.specs.PairedLaws.{after-append, paired-append, waits_on, declined_on, overrun_on}
 use Rattle.drivers.specs.declared.Call.{Call}
 use Rattle.drivers.specs.declared.Answer.{Answer}
 use Rattle.drivers.specs.declared.Answer.TheVariants as answer
@@ -66,51 +66,51 @@ record Took (c : Call) (r : Got Reply) (t : Talk) : Type 0 where
   reply : r.value ≡ reply_to c t.left
   fit : is_unfit (answer_of t.left c.kind) ≡ false
 
-ask-ok : (c : Call) (t : Talk) → Goes (ask c t).talk → Took c (ask c t) t
+ask_ok : (c : Call) (t : Talk) → Goes (ask c t).talk → Took c (ask c t) t
 unfolding ask
-ask-ok c t g = at t.stop refl g
+ask_ok c t g = at t.stop refl g
   where
     fit_at : (b : Bool) → is_unfit (answer_of t.left c.kind) ≡ b → Goes t →
         Goes (ask_fit b c (answer_of t.left c.kind) t).talk → Took c (ask_fit b c (answer_of t.left c.kind) t) t
-    fit_at true f s e = absurd (declined-on e)
+    fit_at true f s e = absurd (declined_on e)
     fit_at false f s e = record { was = s; calls = refl; left = refl; opened = refl; reply = refl; fit = f }
 
     left_at : (b : Bool) → Goes t → Goes (ask_left b c t).talk → Took c (ask_left b c t) t
-    left_at true s e = absurd (waits-on e)
+    left_at true s e = absurd (waits_on e)
     left_at false s e = fit_at (is_unfit (answer_of t.left c.kind)) refl s e
 
-    room-at : (b : Bool) → Goes t → Goes (ask_room b c t).talk → Took c (ask_room b c t) t
-    room-at true s e = absurd (overrun-on e)
-    room-at false s e = left_at (eqb (length t.left) 0) s e
+    room_at_lem : (b : Bool) → Goes t → Goes (ask_room b c t).talk → Took c (ask_room b c t) t
+    room_at_lem true s e = absurd (overrun_on e)
+    room_at_lem false s e = left_at (eqb (length t.left) 0) s e
 
     at : (s : Stop) → t.stop ≡ s → Goes (ask_at s c t).talk → Took c (ask_at s c t) t
-    at going s e = room-at (leb 337 (length t.calls)) s e
-    at (waits d) s e = absurd (waits-on (sym s ∙ e))
-    at declined s e = absurd (declined-on (sym s ∙ e))
-    at overrun s e = absurd (overrun-on (sym s ∙ e))
+    at going s e = room_at_lem (leb 337 (length t.calls)) s e
+    at (waits d) s e = absurd (waits_on (sym s ∙ e))
+    at declined s e = absurd (declined_on (sym s ∙ e))
+    at overrun s e = absurd (overrun_on (sym s ∙ e))
 
 -- a message asks nothing
-pub send-ok : (P : List Asked → Type 0) (out : Out) (t : Talk) → P [] → Goes (send out t) → Grown P t (send out t)
+pub send_ok : (P : List Asked → Type 0) (out : Out) (t : Talk) → P [] → Goes (send out t) → Grown P t (send out t)
 unfolding send opens paired after
-send-ok P out t h g = at t.stop refl g
+send_ok P out t h g = at t.stop refl g
   where
-    room-at : (b : Bool) → Goes t → Goes (send_room b (bytes_of out) t) → Grown P t (send_room b (bytes_of out) t)
-    room-at true s e = absurd (overrun-on e)
-    room-at false s e =
+    room_at_lem : (b : Bool) → Goes t → Goes (send_room b (bytes_of out) t) → Grown P t (send_room b (bytes_of out) t)
+    room_at_lem true s e = absurd (overrun_on e)
+    room_at_lem false s e =
         record { was = s; more = []; calls = sym (append-nil t.calls); left = refl; opened = refl; fact = h }
 
     at : (s : Stop) → t.stop ≡ s → Goes (send_at s (bytes_of out) t) → Grown P t (send_at s (bytes_of out) t)
-    at going s e = room-at (leb 102 (length t.messages)) s e
-    at (waits d) s e = absurd (waits-on (sym s ∙ e))
-    at declined s e = absurd (declined-on (sym s ∙ e))
-    at overrun s e = absurd (overrun-on (sym s ∙ e))
+    at going s e = room_at_lem (leb 102 (length t.messages)) s e
+    at (waits d) s e = absurd (waits_on (sym s ∙ e))
+    at declined s e = absurd (declined_on (sym s ∙ e))
+    at overrun s e = absurd (overrun_on (sym s ∙ e))
 
 -- a call that opens nothing
-ask-grown : (c : Call) → eqb c.kind 0 ≡ false → (t : Talk) → Goes (ask c t).talk →
+ask_grown : (c : Call) → eqb c.kind 0 ≡ false → (t : Talk) → Goes (ask c t).talk →
     Grown (λ l. l ≡ saying c (ask c t).value ∷ []) t (ask c t).talk
 unfolding opens paired after
-ask-grown c k t g =
-    let a = ask-ok c t g in
+ask_grown c k t g =
+    let a = ask_ok c t g in
     record {
       was = a.was;
       more = c ∷ [];
@@ -148,22 +148,22 @@ refused-is part f d = go (ltb (length part) 16) (eqb (get_or part 0 0) 0) (eqb (
 -- how a driver was opened for a use of the name
 pub data Opening (o : List Bool) (driver name : ℕ) : Bool → List Asked → Type 0 where
   was-open : get_or o driver false ≡ true → Opening o driver name true []
-  opens-now : get_or o driver false ≡ false → Opening o driver name true (saying (plain_call 0 driver name 0) done_reply ∷ [])
+  opens_now_lem : get_or o driver false ≡ false → Opening o driver name true (saying (plain_call 0 driver name 0) done_reply ∷ [])
   stays-shut : get_or o driver false ≡ false → Opening o driver name false (saying (plain_call 0 driver name 0) no_reply ∷ [])
 
-pub open-ok : (driver name : ℕ) (t : Talk) → Goes (open_for driver name t).talk →
+pub open_ok : (driver name : ℕ) (t : Talk) → Goes (open_for driver name t).talk →
     Grown (Opening t.opened driver name (open_for driver name t).value) t (open_for driver name t).talk
 unfolding open_for is_open next opening opens paired after plain_call item_count items_of
-open-ok driver name t g = at (get_or t.opened driver false) refl g
+open_ok driver name t g = at (get_or t.opened driver false) refl g
   where
     c : Call
     c = plain_call 0 driver name 0
 
-    opened-by : (b : Bool) → is_done (ask c t).value.answer ≡ b → get_or t.opened driver false ≡ false →
+    opened_by_lem : (b : Bool) → is_done (ask c t).value.answer ≡ b → get_or t.opened driver false ≡ false →
         Goes (opened_by b driver (ask c t).talk).talk →
         Grown (Opening t.opened driver name (opened_by b driver (ask c t).talk).value) t (opened_by b driver (ask c t).talk).talk
-    opened-by true d n e =
-        let a = ask-ok c t e in
+    opened_by_lem true d n e =
+        let a = ask_ok c t e in
         let q : answer_of t.left 0 ≡ answer.Done = done-is (answer_of t.left 0) (rw a.reply at d) in
         record {
           was = a.was;
@@ -171,10 +171,10 @@ open-ok driver name t g = at (get_or t.opened driver false) refl g
           calls = a.calls;
           left = a.left;
           opened = rw (a.opened, q);
-          fact = rw q (opens-now n);
+          fact = rw q (opens_now_lem n);
         }
-    opened-by false d n e =
-        let a = ask-ok c t e in
+    opened_by_lem false d n e =
+        let a = ask_ok c t e in
         let q : answer_of t.left 0 ≡ answer.Refused = refused-is t.left a.fit (rw a.reply at d) in
         record {
           was = a.was;
@@ -188,25 +188,25 @@ open-ok driver name t g = at (get_or t.opened driver false) refl g
     at : (b : Bool) → get_or t.opened driver false ≡ b → Goes (open_if b driver name t).talk →
         Grown (Opening t.opened driver name (open_if b driver name t).value) t (open_if b driver name t).talk
     at true n e = same _ t e (was-open n)
-    at false n e = opened-by (is_done (ask c t).value.answer) refl n e
+    at false n e = opened_by_lem (is_done (ask c t).value.answer) refl n e
 
 -- ── a use: the one rule that the handlers' proofs need ──
 
 module _ {o : List Bool} {c : Call} where
-  used-so : {b : Bool} {l : List Asked} (r : Reply) → Opening o c.driver c.name b l → b ≡ true → Uses o c r (l ++ (saying c r ∷ []))
-  used-so r (was-open n) e = used n
-  used-so r (opens-now n) e = opened-used n
-  used-so r (stays-shut n) e = absurd (false≢true e)
+  used_so : {b : Bool} {l : List Asked} (r : Reply) → Opening o c.driver c.name b l → b ≡ true → Uses o c r (l ++ (saying c r ∷ []))
+  used_so r (was-open n) e = used n
+  used_so r (opens_now_lem n) e = opened-used n
+  used_so r (stays-shut n) e = absurd (false≢true e)
 
-  refused-so : {b : Bool} {l : List Asked} → Opening o c.driver c.name b l → b ≡ false → Uses o c no_reply l
-  refused-so (was-open n) e = absurd (true≢false e)
-  refused-so (opens-now n) e = absurd (true≢false e)
-  refused-so (stays-shut n) e = not-used n
+  refused_so : {b : Bool} {l : List Asked} → Opening o c.driver c.name b l → b ≡ false → Uses o c no_reply l
+  refused_so (was-open n) e = absurd (true≢false e)
+  refused_so (opens_now_lem n) e = absurd (true≢false e)
+  refused_so (stays-shut n) e = not-used n
 
-pub use-ok : (c : Call) → eqb c.kind 0 ≡ false → (t : Talk) → Goes (use_call c t).talk →
+pub use_ok : (c : Call) → eqb c.kind 0 ≡ false → (t : Talk) → Goes (use_call c t).talk →
     Grown (Uses t.opened c (use_call c t).value) t (use_call c t).talk
 unfolding use_call next
-use-ok c k t g = go (open_for c.driver c.name t).value refl g
+use_ok c k t g = go (open_for c.driver c.name t).value refl g
   where
     u : Talk
     u = (open_for c.driver c.name t).talk
@@ -214,7 +214,7 @@ use-ok c k t g = go (open_for c.driver c.name t).value refl g
     go : (b : Bool) → (open_for c.driver c.name t).value ≡ b → Goes (ask_if b c u).talk →
         Grown (Uses t.opened c (ask_if b c u).value) t (ask_if b c u).talk
     go true q e =
-        let h = ask-grown c k u e in
-        let p = open-ok c.driver c.name t h.was in
-        join p h (λ m i. rw i (used-so {o = t.opened} {c = c} (ask c u).value p.fact q))
-    go false q e = weaken (λ l i. refused-so {o = t.opened} {c = c} i q) (open-ok c.driver c.name t e)
+        let h = ask_grown c k u e in
+        let p = open_ok c.driver c.name t h.was in
+        join p h (λ m i. rw i (used_so {o = t.opened} {c = c} (ask c u).value p.fact q))
+    go false q e = weaken (λ l i. refused_so {o = t.opened} {c = c} i q) (open_ok c.driver c.name t e)

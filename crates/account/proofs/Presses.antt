@@ -34,145 +34,145 @@ use Rattle.definition.specs.Scenes.{Paged, paged, Loaded, Started, names_on, nam
 use Rattle.definition.specs.Banks.{select_if, select_bank, next_bank, step_if, step_bank}
 use Rattle.definition.specs.Buttons.{Press, Pressed, pressed, of_bank, offered_if, default_of, default_button, run_bound, run_else, run_command, rec_if, rec_loads, bank_of, page, walk, command, rec_as, rec, select_as, mute_as, solo_as, or_first, press_of, button}
 use Rattle.account.specs.Account.{answer_in, loads, is_load, steps, Uses, used, opened-used, not-used, Only, no_call, one-call}
-use Rattle.account.proofs.Grown.{Grown, Goes, weaken, join, use-ok}
-use Rattle.account.proofs.Frame.{Makes, Asks, stay, still, giving, line_of, behind, onto, bind, makes-open, makes-use, makes-done, makes-read, makes-read_mute, makes-muted_to, makes-push, makes-number, makes-flash_bank}
+use Rattle.account.proofs.Grown.{Grown, Goes, weaken, join, use_ok}
+use Rattle.account.proofs.Frame.{Makes, Asks, stay, still, giving, line_of, behind, onto, bind, makes_open, makes_use, makes_done, makes_read, makes_read_mute, makes_muted_to, makes_push, makes_number, makes_flash_bank}
 
 abbrev pub not_load : ℕ → Bool
 not_load kind = not (eqb kind 8)
 
 -- ── what loads nothing ──
 
-makes-write_of : (driver name : ℕ) (x : Float) → Asks not_load (write_of driver name x)
+makes_write_of : (driver name : ℕ) (x : Float) → Asks not_load (write_of driver name x)
 unfolding write_of write_call
-makes-write_of driver name x = makes-done refl (write_call driver name x) refl refl
+makes_write_of driver name x = makes_done refl (write_call driver name x) refl refl
 
-makes-write : (d : Destination) (x : Float) → Asks not_load (write d x)
+makes_write : (d : Destination) (x : Float) → Asks not_load (write d x)
 unfolding write
-makes-write d x = makes-write_of d.driver d.target _
+makes_write d x = makes_write_of d.driver d.target _
 
-makes-toggle : (driver name : ℕ) → Asks not_load (toggle_of driver name)
+makes_toggle : (driver name : ℕ) → Asks not_load (toggle_of driver name)
 unfolding toggle_of plain_call
-makes-toggle driver name = makes-done refl (plain_call 3 driver name 0) refl refl
+makes_toggle driver name = makes_done refl (plain_call 3 driver name 0) refl refl
 
-makes-command : (driver name c : ℕ) → Asks not_load (command_of driver name c)
+makes_command : (driver name c : ℕ) → Asks not_load (command_of driver name c)
 unfolding command_of plain_call
-makes-command driver name c = makes-done refl (plain_call 4 driver name c) refl refl
+makes_command driver name c = makes_done refl (plain_call 4 driver name c) refl refl
 
-makes-scenes : (driver : ℕ) → Asks not_load (scenes_of driver)
+makes_scenes : (driver : ℕ) → Asks not_load (scenes_of driver)
 unfolding scenes_of plain_call
-makes-scenes driver = bind (makes-use refl (plain_call 6 driver 0 0) refl refl) (λ r. still)
+makes_scenes driver = bind (makes_use refl (plain_call 6 driver 0 0) refl refl) (λ r. still)
 
-makes-current : (driver : ℕ) → Asks not_load (current_of driver)
+makes_current : (driver : ℕ) → Asks not_load (current_of driver)
 unfolding current_of plain_call
-makes-current driver = bind (makes-use refl (plain_call 7 driver 0 0) refl refl) (λ r. still)
+makes_current driver = bind (makes_use refl (plain_call 7 driver 0 0) refl refl) (λ r. still)
 
 -- mute and solo
-makes-back : (d : Destination) (s : List Hushed) → Asks not_load (hand_back d s)
+makes_back : (d : Destination) (s : List Hushed) → Asks not_load (hand_back d s)
 unfolding hand_back
-makes-back d s = giving (line_of (makes-write d _))
+makes_back d s = giving (line_of (makes_write d _))
 
-makes-keep : (d : Destination) (s : List Hushed) → Asks not_load (keep_level d s)
+makes_keep : (d : Destination) (s : List Hushed) → Asks not_load (keep_level d s)
 unfolding keep_level
-makes-keep d s = bind (makes-read refl refl d) (λ l. still)
+makes_keep d s = bind (makes_read refl refl d) (λ l. still)
 
-makes-zeroed : (d : Destination) (s : List Hushed) → Asks not_load (zeroed d s)
+makes_zeroed : (d : Destination) (s : List Hushed) → Asks not_load (zeroed d s)
 unfolding zeroed
-makes-zeroed d s = bind (makes-keep d s) (λ k. giving (line_of (makes-write_of d.driver d.target _)))
+makes_zeroed d s = bind (makes_keep d s) (λ k. giving (line_of (makes_write_of d.driver d.target _)))
 
-makes-mute_if : (b : Bool) (d : Destination) (s : List Hushed) → Asks not_load (mute_if b d s)
-makes-mute_if true d s = giving (line_of (makes-toggle d.driver d.mute))
-makes-mute_if false d s = go (is_hushed (kept_by d) (targets_of s))
+makes_mute_if : (b : Bool) (d : Destination) (s : List Hushed) → Asks not_load (mute_if b d s)
+makes_mute_if true d s = giving (line_of (makes_toggle d.driver d.mute))
+makes_mute_if false d s = go (is_hushed (kept_by d) (targets_of s))
   where
     go : (b : Bool) → Asks not_load (mute_level b d s)
-    go true = makes-back d s
-    go false = makes-zeroed d s
+    go true = makes_back d s
+    go false = makes_zeroed d s
 
-makes-mute_to : (f : Found) (r : Rig) (l : Lamps) (s : List Hushed) → Asks not_load (mute_to f r l s)
-makes-mute_to (found.To d) r l s = bind (makes-mute_if (has_mute d) d s) (λ k. giving (makes-push refl refl r l (targets_of k)))
-makes-mute_to found.Nothing r l s = still
+makes_mute_to : (f : Found) (r : Rig) (l : Lamps) (s : List Hushed) → Asks not_load (mute_to f r l s)
+makes_mute_to (found.To d) r l s = bind (makes_mute_if (has_mute d) d s) (λ k. giving (makes_push refl refl r l (targets_of k)))
+makes_mute_to found.Nothing r l s = still
 
-makes-toggle_if : (o : Option Bool) (b : Bool) (d : Destination) → Makes not_load (toggle_if o b d)
-makes-toggle_if none b d = stay
-makes-toggle_if (some a) b d = go (beq a b)
+makes_toggle_if : (o : Option Bool) (b : Bool) (d : Destination) → Makes not_load (toggle_if o b d)
+makes_toggle_if none b d = stay
+makes_toggle_if (some a) b d = go (beq a b)
   where
     go : (c : Bool) → Makes not_load (λ t. pick c t (toggle_of d.driver d.mute t).talk)
     go true = stay
-    go false = line_of (makes-toggle d.driver d.mute)
+    go false = line_of (makes_toggle d.driver d.mute)
 
-makes-set_mute : (d : Destination) (b : Bool) → Makes not_load (set_mute d b)
+makes_set_mute : (d : Destination) (b : Bool) → Makes not_load (set_mute d b)
 unfolding set_mute
-makes-set_mute d b = onto (makes-read_mute refl refl d) (λ o. makes-toggle_if o b d)
+makes_set_mute d b = onto (makes_read_mute refl refl d) (λ o. makes_toggle_if o b d)
 
-makes-back_if : (b : Bool) (d : Destination) (s : List Hushed) → Asks not_load (back_if b d s)
-makes-back_if true d s = makes-back d s
-makes-back_if false d s = still
+makes_back_if : (b : Bool) (d : Destination) (s : List Hushed) → Asks not_load (back_if b d s)
+makes_back_if true d s = makes_back d s
+makes_back_if false d s = still
 
-makes-off_if : (b : Bool) (d : Destination) (was : Bool) (s : List Hushed) → Asks not_load (off_if b d was s)
-makes-off_if true d was s = giving (makes-set_mute d was)
-makes-off_if false d was s = makes-back_if (is_hushed (kept_by d) (targets_of s)) d s
+makes_off_if : (b : Bool) (d : Destination) (was : Bool) (s : List Hushed) → Asks not_load (off_if b d was s)
+makes_off_if true d was s = giving (makes_set_mute d was)
+makes_off_if false d was s = makes_back_if (is_hushed (kept_by d) (targets_of s)) d s
 
-makes-off_to : (f : Found) (was : Bool) (s : List Hushed) → Asks not_load (off_to f was s)
-makes-off_to (found.To d) was s = makes-off_if (has_mute d) d was s
-makes-off_to found.Nothing was s = still
+makes_off_to : (f : Found) (was : Bool) (s : List Hushed) → Asks not_load (off_to f was s)
+makes_off_to (found.To d) was s = makes_off_if (has_mute d) d was s
+makes_off_to found.Nothing was s = still
 
-makes-solo_off : (r : Rig) (group : ℕ) (l : Lamps) (n : ℕ) (s : List Hushed) → Asks not_load (solo_off (peer r group) l n s)
+makes_solo_off : (r : Rig) (group : ℕ) (l : Lamps) (n : ℕ) (s : List Hushed) → Asks not_load (solo_off (peer r group) l n s)
 unfolding solo_off
-makes-solo_off r group l zero s = still
-makes-solo_off r group l (suc n) s = bind (makes-solo_off r group l n s) (λ k. makes-off_to (peer r group (n + 1)) _ k)
+makes_solo_off r group l zero s = still
+makes_solo_off r group l (suc n) s = bind (makes_solo_off r group l n s) (λ k. makes_off_to (peer r group (n + 1)) _ k)
 
-makes-notes : (r : Rig) (group : ℕ) (ts : List ℕ) (n : ℕ) (l : Lamps) → Asks not_load (note_mutes (peer r group) ts n l)
+makes_notes : (r : Rig) (group : ℕ) (ts : List ℕ) (n : ℕ) (l : Lamps) → Asks not_load (note_mutes (peer r group) ts n l)
 unfolding note_mutes
-makes-notes r group ts zero l = still
-makes-notes r group ts (suc n) l = bind (makes-notes r group ts n l) (λ k. bind (makes-muted_to refl refl (peer r group (n + 1)) ts) (λ b. still))
+makes_notes r group ts zero l = still
+makes_notes r group ts (suc n) l = bind (makes_notes r group ts n l) (λ k. bind (makes_muted_to refl refl (peer r group (n + 1)) ts) (λ b. still))
 
-makes-note_if : (b : Bool) (r : Rig) (group : ℕ) (ts : List ℕ) (l : Lamps) → Asks not_load (note_if b (peer r group) ts l)
-makes-note_if true r group ts l = makes-notes r group ts 16 l
-makes-note_if false r group ts l = still
+makes_note_if : (b : Bool) (r : Rig) (group : ℕ) (ts : List ℕ) (l : Lamps) → Asks not_load (note_if b (peer r group) ts l)
+makes_note_if true r group ts l = makes_notes r group ts 16 l
+makes_note_if false r group ts l = still
 
-makes-silence_if : (b : Bool) (d : Destination) (s : List Hushed) → Asks not_load (silence_if b d s)
-makes-silence_if true d s = giving (line_of (makes-write d _))
-makes-silence_if false d s = bind (makes-keep d s) (λ k. giving (line_of (makes-write d _)))
+makes_silence_if : (b : Bool) (d : Destination) (s : List Hushed) → Asks not_load (silence_if b d s)
+makes_silence_if true d s = giving (line_of (makes_write d _))
+makes_silence_if false d s = bind (makes_keep d s) (λ k. giving (line_of (makes_write d _)))
 
-makes-on_if : (b : Bool) (d : Destination) (silence : Bool) (s : List Hushed) → Asks not_load (on_if b d silence s)
-makes-on_if true d silence s = giving (makes-set_mute d silence)
-makes-on_if false d silence s = go silence
+makes_on_if : (b : Bool) (d : Destination) (silence : Bool) (s : List Hushed) → Asks not_load (on_if b d silence s)
+makes_on_if true d silence s = giving (makes_set_mute d silence)
+makes_on_if false d silence s = go silence
   where
     go : (b : Bool) → Asks not_load (on_level b d s)
-    go true = makes-silence_if (is_hushed (kept_by d) (targets_of s)) d s
-    go false = makes-back_if (is_hushed (kept_by d) (targets_of s)) d s
+    go true = makes_silence_if (is_hushed (kept_by d) (targets_of s)) d s
+    go false = makes_back_if (is_hushed (kept_by d) (targets_of s)) d s
 
-makes-on_to : (f : Found) (silence : Bool) (s : List Hushed) → Asks not_load (on_to f silence s)
-makes-on_to (found.To d) silence s = makes-on_if (has_mute d) d silence s
-makes-on_to found.Nothing silence s = still
+makes_on_to : (f : Found) (silence : Bool) (s : List Hushed) → Asks not_load (on_to f silence s)
+makes_on_to (found.To d) silence s = makes_on_if (has_mute d) d silence s
+makes_on_to found.Nothing silence s = still
 
-makes-solo_on : (r : Rig) (group fader n : ℕ) (s : List Hushed) → Asks not_load (solo_on (peer r group) fader n s)
+makes_solo_on : (r : Rig) (group fader n : ℕ) (s : List Hushed) → Asks not_load (solo_on (peer r group) fader n s)
 unfolding solo_on
-makes-solo_on r group fader zero s = still
-makes-solo_on r group fader (suc n) s = bind (makes-solo_on r group fader n s) (λ k. makes-on_to (peer r group (n + 1)) _ k)
+makes_solo_on r group fader zero s = still
+makes_solo_on r group fader (suc n) s = bind (makes_solo_on r group fader n s) (λ k. makes_on_to (peer r group (n + 1)) _ k)
 
-makes-solo_if : (b : Bool) (r : Rig) (group fader : ℕ) (l : Lamps) (s : List Hushed) → Asks not_load (solo_if b r group fader l s)
-makes-solo_if true r group fader l s =
-    bind (makes-solo_off r group l 16 s) (λ k. giving (makes-push refl refl r (solo_to 0 (none_noted l)) (targets_of k)))
-makes-solo_if false r group fader l s =
-    bind (makes-note_if (eqb l.soloed 0) r group (targets_of s) l)
-    (λ n. bind (makes-solo_on r group fader 16 s) (λ k. giving (makes-push refl refl r (solo_to fader n) (targets_of k))))
+makes_solo_if : (b : Bool) (r : Rig) (group fader : ℕ) (l : Lamps) (s : List Hushed) → Asks not_load (solo_if b r group fader l s)
+makes_solo_if true r group fader l s =
+    bind (makes_solo_off r group l 16 s) (λ k. giving (makes_push refl refl r (solo_to 0 (none_noted l)) (targets_of k)))
+makes_solo_if false r group fader l s =
+    bind (makes_note_if (eqb l.soloed 0) r group (targets_of s) l)
+    (λ n. bind (makes_solo_on r group fader 16 s) (λ k. giving (makes_push refl refl r (solo_to fader n) (targets_of k))))
 
-makes-solo_with : (f : Found) (r : Rig) (fader : ℕ) (l : Lamps) (s : List Hushed) → Asks not_load (solo_with f r fader l s)
-makes-solo_with (found.To d) r fader l s = makes-solo_if (eqb l.soloed fader) r d.group fader l s
-makes-solo_with found.Nothing r fader l s = still
+makes_solo_with : (f : Found) (r : Rig) (fader : ℕ) (l : Lamps) (s : List Hushed) → Asks not_load (solo_with f r fader l s)
+makes_solo_with (found.To d) r fader l s = makes_solo_if (eqb l.soloed fader) r d.group fader l s
+makes_solo_with found.Nothing r fader l s = still
 
-makes-mute : (r : Rig) (n : ℕ) (l : Lamps) (s : List Hushed) → Asks not_load (mute r n l s)
+makes_mute : (r : Rig) (n : ℕ) (l : Lamps) (s : List Hushed) → Asks not_load (mute r n l s)
 unfolding mute
-makes-mute r n l s = makes-mute_to (destination r n) r l s
+makes_mute r n l s = makes_mute_to (destination r n) r l s
 
-makes-solo : (r : Rig) (n : ℕ) (l : Lamps) (s : List Hushed) → Asks not_load (solo r n l s)
+makes_solo : (r : Rig) (n : ℕ) (l : Lamps) (s : List Hushed) → Asks not_load (solo r n l s)
 unfolding solo
-makes-solo r n l s = makes-solo_with (destination r n) r n l s
+makes_solo r n l s = makes_solo_with (destination r n) r n l s
 
 -- commands
-makes-default : (r : Rig) (kind : ℕ) → Asks not_load (default_button r kind)
+makes_default : (r : Rig) (kind : ℕ) → Asks not_load (default_button r kind)
 unfolding default_button
-makes-default r kind = go (eqb (bank_driver r.here) 65535)
+makes_default r kind = go (eqb (bank_driver r.here) 65535)
   where
     at : (b : Bool) → Asks not_load (offered_if b r (bank_driver r.here) kind)
     at true = still
@@ -180,60 +180,60 @@ makes-default r kind = go (eqb (bank_driver r.here) 65535)
 
     go : (b : Bool) → Asks not_load (default_of b r (bank_driver r.here) kind)
     go true = still
-    go false = bind (makes-open refl (bank_driver r.here) 0) at
+    go false = bind (makes_open refl (bank_driver r.here) 0) at
 
-makes-bound : (b : Bound) → Makes not_load (run_bound b)
-makes-bound (bound.Run c) = line_of (makes-command c.driver c.target c.command)
-makes-bound bound.Nothing = stay
+makes_bound : (b : Bound) → Makes not_load (run_bound b)
+makes_bound (bound.Run c) = line_of (makes_command c.driver c.target c.command)
+makes_bound bound.Nothing = stay
 
-makes-run : (r : Rig) (kind : ℕ) → Makes not_load (run_command r kind)
+makes_run : (r : Rig) (kind : ℕ) → Makes not_load (run_command r kind)
 unfolding run_command
-makes-run r kind = go (before (transport_of kind r.globals.transports) (transport_of kind r.here.part.transports))
+makes_run r kind = go (before (transport_of kind r.globals.transports) (transport_of kind r.here.part.transports))
   where
     go : (b : Bound) → Makes not_load (run_else b r kind)
-    go (bound.Run c) = makes-bound (bound.Run c)
-    go bound.Nothing = onto {m = default_button r kind} {g = run_bound} (makes-default r kind) makes-bound
+    go (bound.Run c) = makes_bound (bound.Run c)
+    go bound.Nothing = onto {m = default_button r kind} {g = run_bound} (makes_default r kind) makes_bound
 
-makes-rec_loads : (r : Rig) → Asks not_load (rec_loads r)
+makes_rec_loads : (r : Rig) → Asks not_load (rec_loads r)
 unfolding rec_loads
-makes-rec_loads r = go (eqb r.here.part.rec 0)
+makes_rec_loads r = go (eqb r.here.part.rec 0)
   where
     go : (b : Bool) → Asks not_load (rec_if b r)
-    go true = bind (makes-default r 0) (λ b. still)
+    go true = bind (makes_default r 0) (λ b. still)
     go false = still
 
 -- scenes, without their loads
-makes-names : (h : Here) → Asks not_load (scene_names h)
+makes_names : (h : Here) → Asks not_load (scene_names h)
 unfolding scene_names
-makes-names h = go (eqb (length h.part.scenes) 0)
+makes_names h = go (eqb (length h.part.scenes) 0)
   where
     on : (b : Bool) → Asks not_load (names_on b (device h))
     on true = still
-    on false = bind (makes-scenes (device h)) (λ l. still)
+    on false = bind (makes_scenes (device h)) (λ l. still)
 
     go : (b : Bool) → Asks not_load (names_if b h)
     go true = on (eqb (device h) 65535)
     go false = still
 
-makes-on_device : (h : Here) (names : List ℕ) → Asks not_load (scene_on_device h names)
+makes_on_device : (h : Here) (names : List ℕ) → Asks not_load (scene_on_device h names)
 unfolding scene_on_device
-makes-on_device h names = go (eqb (device h) 65535)
+makes_on_device h names = go (eqb (device h) 65535)
   where
     on : (i : Index) → Asks not_load (on_list i (device h) names)
-    on (index.At i) = bind (makes-scenes (device h)) (λ l. still)
+    on (index.At i) = bind (makes_scenes (device h)) (λ l. still)
     on index.Nothing = still
 
     go : (b : Bool) → Asks not_load (on_device_if b (device h) names)
     go true = still
-    go false = bind (makes-current (device h)) on
+    go false = bind (makes_current (device h)) on
 
-makes-start : (h : Here) (names : List ℕ) (l : Lamps) → Asks not_load (start h names l)
+makes_start : (h : Here) (names : List ℕ) (l : Lamps) → Asks not_load (start h names l)
 unfolding start
-makes-start h names l = go (scene_at h.bank l)
+makes_start h names l = go (scene_at h.bank l)
   where
     go : (p : Place) → Asks not_load (start_if p h names l)
     go (place.At i) = still
-    go place.Nothing = bind (makes-on_device h names) (λ p. still)
+    go place.Nothing = bind (makes_on_device h names) (λ p. still)
 
 -- ── loads ──
 
@@ -267,9 +267,9 @@ module _ {A : Type 0} where
   quiet h k = record { grown = λ t e. weaken (λ l o. only_none o ∙ sym (k t)) (h.grown t e) }
 
 module _ {A B : Type 0} {f : B → Bool} {m : Act A} {k : A → Act B} where
-  quiet-first : Asks not_load m → ((a : A) → Loads f (k a)) → Loads f (m >>= k)
+  quiet_first : Asks not_load m → ((a : A) → Loads f (k a)) → Loads f (m >>= k)
   unfolding next
-  quiet-first h i =
+  quiet_first h i =
       record {
         grown = λ t e.
             let b = (i (m t).value).grown (m t).talk e in
@@ -294,16 +294,16 @@ itself b = b
 
 loads-load_of : (driver i : ℕ) → Loads itself (load_of driver i)
 unfolding load_of use_done next plain_call loads
-loads-load_of driver i = record { grown = λ t e. weaken (λ l u. at u) (use-ok (plain_call 8 driver 0 i) refl t e) }
+loads-load_of driver i = record { grown = λ t e. weaken (λ l u. at u) (use_ok (plain_call 8 driver 0 i) refl t e) }
   where
     at : {o : List Bool} {r : Reply} {l : List Asked} → Uses o (plain_call 8 driver 0 i) r l → loads l ≡ is_done r.answer
     at (used {r = r} n) = or-false (is_done r.answer)
     at (opened-used {r = r} n) = or-false (is_done r.answer)
     at (not-used n) = refl
 
-loads-on : (driver name i : ℕ) → Loads itself (load_on driver name i)
+loads_on : (driver name i : ℕ) → Loads itself (load_on driver name i)
 unfolding load_on
-loads-on driver name i = quiet-first (makes-scenes driver) (λ l. go l.ok l.list)
+loads_on driver name i = quiet_first (makes_scenes driver) (λ l. go l.ok l.list)
   where
     go : (b : Bool) (all : List ℕ) → Loads itself (load_if b driver name i all)
     go true all = loads-load_of driver _
@@ -318,10 +318,10 @@ loaded_of x = x.loaded
 loads-scene_at : (r : Rig) (s : List ℕ) (i : ℕ) (l : Lamps) → Loads ok_of (load_scene_at r s i l)
 unfolding load_scene_at
 loads-scene_at r s i l =
-    quiet-first (makes-names r.here) (λ names. go (eqb (device r.here) 65535 || leb (length names) i) names)
+    quiet_first (makes_names r.here) (λ names. go (eqb (device r.here) 65535 || leb (length names) i) names)
   where
     after-load : (b : Bool) → Asks not_load (loaded_if b r s i l)
-    after-load true = giving (makes-push refl refl r _ s)
+    after-load true = giving (makes_push refl refl r _ s)
     after-load false = still
 
     value : (b : Bool) (t : Talk) → ok_of (loaded_if b r s i l t).value ≡ b
@@ -330,14 +330,14 @@ loads-scene_at r s i l =
 
     go : (b : Bool) (names : List ℕ) → Loads ok_of (load_at_if b r s i l names)
     go true names = quiet still (λ t. refl)
-    go false names = quiet_then itself (loads-on (device r.here) (get_or names i 65535) i) after-load value
+    go false names = quiet_then itself (loads_on (device r.here) (get_or names i 65535) i) after-load value
 
 loads-page : (right : Bool) (r : Rig) (s : List ℕ) (m : Moves) (now : Float) (l : Lamps) → Loads loaded_of (step_scene right r s m now l)
 unfolding step_scene next
-loads-page right r s m now l = quiet-first (makes-names r.here) (λ names. at (eqb (length names) 0) names)
+loads-page right r s m now l = quiet_first (makes_names r.here) (λ names. at (eqb (length names) 0) names)
   where
     show : (i : ℕ) (saved : Bool) (k : Lamps) (b : Bool) → Asks not_load (shown_if b r s m now i k saved)
-    show i saved k true = bind (makes-number refl refl r s m now i 8 k) (λ z. still {a = paged z true true})
+    show i saved k true = bind (makes_number refl refl r s m now i 8 k) (λ z. still {a = paged z true true})
     show i saved k false = still
 
     value : (i : ℕ) (saved : Bool) (k : Lamps) (b : Bool) (t : Talk) → loaded_of (shown_if b r s m now i k saved t).value ≡ b
@@ -352,7 +352,7 @@ loads-page right r s m now l = quiet-first (makes-names r.here) (λ names. at (e
     at : (b : Bool) (names : List ℕ) → Loads loaded_of (step_scene_if b right r s m now l names)
     at true names = quiet still (λ t. refl)
     at false names =
-        quiet-first (makes-start r.here names l)
+        quiet_first (makes_start r.here names l)
         (λ x. go (is_at (scene_at r.here.bank x.lamps) (next_scene right (scene_at r.here.bank x.lamps) (length names))) (next_scene right (scene_at r.here.bank x.lamps) (length names)) x)
 
 loads-scene : (r : Rig) (s : List ℕ) (m : Moves) (now : Float) (n : ℕ) (l : Lamps) → Loads loaded_of (scene r s m now n l)
@@ -360,7 +360,7 @@ unfolding scene next
 loads-scene r s m now n l = quiet_then ok_of (loads-scene_at r s (n - 1) l) (λ k. show k.lamps k.ok) (λ k t. value k.lamps k.ok t)
   where
     show : (k : Lamps) (b : Bool) → Asks not_load (scene_if b r s m now n k)
-    show k true = bind (makes-number refl refl r s m now (n - 1) 8 (loaded_by n k)) (λ z. still {a = paged z true true})
+    show k true = bind (makes_number refl refl r s m now (n - 1) 8 (loaded_by n k)) (λ z. still {a = paged z true true})
     show k false = still
 
     value : (k : Lamps) (b : Bool) (t : Talk) → loaded_of (scene_if b r s m now n k t).value ≡ b
@@ -370,43 +370,43 @@ loads-scene r s m now n l = quiet_then ok_of (loads-scene_at r s (n - 1) l) (λ 
 -- ── a bank is selected ──
 
 module _ (rig_at : ℕ → Rig) (banks bank i : ℕ) (s : List ℕ) (m : Moves) (now : Float) (l : Lamps) where
-  makes-select_if : (b : Bool) → Asks not_load (select_if b rig_at bank i s m now l)
-  makes-select_if true = still
-  makes-select_if false = bind (behind (makes-flash_bank refl refl (rig_at i) s m now l) (makes-push refl refl (rig_at i) l s)) (λ k. still)
+  makes_select_if : (b : Bool) → Asks not_load (select_if b rig_at bank i s m now l)
+  makes_select_if true = still
+  makes_select_if false = bind (behind (makes_flash_bank refl refl (rig_at i) s m now l) (makes_push refl refl (rig_at i) l s)) (λ k. still)
 
-  selected-if : (b : Bool) (t : Talk) → (select_if b rig_at bank i s m now l t).value.selected ≡ not b
+  selected_if : (b : Bool) (t : Talk) → (select_if b rig_at bank i s m now l t).value.selected ≡ not b
   unfolding next
-  selected-if true t = refl
-  selected-if false t = refl
+  selected_if true t = refl
+  selected_if false t = refl
 
-  bank-if : (b : Bool) (t : Talk) → leb banks i ≡ b → bank < 16 → banks ≤ 16 → (select_if b rig_at bank i s m now l t).value.bank < 16
+  bank_if : (b : Bool) (t : Talk) → leb banks i ≡ b → bank < 16 → banks ≤ 16 → (select_if b rig_at bank i s m now l t).value.bank < 16
   unfolding next
-  bank-if true t e h f = h
-  bank-if false t e h f = omega (arith, leb-false banks i e)
+  bank_if true t e h f = h
+  bank_if false t e h f = omega (arith, leb-false banks i e)
 
   makes_select : Asks not_load (select_bank rig_at banks bank i s m now l)
   unfolding select_bank
-  makes_select = makes-select_if (leb banks i)
+  makes_select = makes_select_if (leb banks i)
 
-  selected-so : (t : Talk) → (select_bank rig_at banks bank i s m now l t).value.selected ≡ not (leb banks i)
+  selected_so : (t : Talk) → (select_bank rig_at banks bank i s m now l t).value.selected ≡ not (leb banks i)
   unfolding select_bank
-  selected-so t = selected-if (leb banks i) t
+  selected_so t = selected_if (leb banks i) t
 
-  bank-so : (t : Talk) → bank < 16 → banks ≤ 16 → (select_bank rig_at banks bank i s m now l t).value.bank < 16
+  bank_so : (t : Talk) → bank < 16 → banks ≤ 16 → (select_bank rig_at banks bank i s m now l t).value.bank < 16
   unfolding select_bank
-  bank-so t h f = bank-if (leb banks i) t refl h f
+  bank_so t h f = bank_if (leb banks i) t refl h f
 
-  makes-step_if : (b : Bool) → Asks not_load (step_if b rig_at banks bank i s m now l)
-  makes-step_if true = still
-  makes-step_if false = makes_select
+  makes_step_if : (b : Bool) → Asks not_load (step_if b rig_at banks bank i s m now l)
+  makes_step_if true = still
+  makes_step_if false = makes_select
 
-  stepped-if : (b : Bool) (t : Talk) → (step_if b rig_at banks bank i s m now l t).value.selected ≡ not b && not (leb banks i)
-  stepped-if true t = refl
-  stepped-if false t = selected-so t
+  stepped_if : (b : Bool) (t : Talk) → (step_if b rig_at banks bank i s m now l t).value.selected ≡ not b && not (leb banks i)
+  stepped_if true t = refl
+  stepped_if false t = selected_so t
 
-  bank-step : (b : Bool) (t : Talk) → bank < 16 → banks ≤ 16 → (step_if b rig_at banks bank i s m now l t).value.bank < 16
-  bank-step true t h f = h
-  bank-step false t h f = bank-so t h f
+  bank_step : (b : Bool) (t : Talk) → bank < 16 → banks ≤ 16 → (step_if b rig_at banks bank i s m now l t).value.bank < 16
+  bank_step true t h f = h
+  bank_step false t h f = bank_so t h f
 
 -- ── any press ──
 
@@ -424,66 +424,66 @@ steady : {sel : Bool} {m : Act Pressed} → Asks not_load m → ((t : Talk) → 
 steady {sel} h k b = record { grown = λ t e. weaken (λ l o. k t ∙ sym (or-none sel l o)) (h.grown t e); bank = b }
 
 module _ (p : Press) (few : p.banks ≤ 16) (here : bank_of p < 16) where
-  page-ok : (right : Bool) → Chooses false (page right p)
+  page_ok : (right : Bool) → Chooses false (page right p)
   unfolding next
-  page-ok right =
+  page_ok right =
       record {
         grown = λ t e. weaken (λ l q. sym q) ((loads-page right p.rig (targets_of p.silenced) p.moves p.now p.lamps).grown t e);
         bank = λ t. here;
       }
 
-  walk-ok : (right : Bool) → Chooses (steps right p.banks (bank_of p)) (walk right p)
+  walk_ok : (right : Bool) → Chooses (steps right p.banks (bank_of p)) (walk right p)
   unfolding next step_bank
-  walk-ok right =
+  walk_ok right =
       let i = next_bank right p.banks (bank_of p) in
       steady
       (bind
-      (makes-step_if p.rig_at p.banks (bank_of p) i (targets_of p.silenced) p.moves p.now p.lamps (eqb i (bank_of p)))
+      (makes_step_if p.rig_at p.banks (bank_of p) i (targets_of p.silenced) p.moves p.now p.lamps (eqb i (bank_of p)))
       (λ x. still {a = of_bank p.silenced x}))
-      (λ t. stepped-if p.rig_at p.banks (bank_of p) i (targets_of p.silenced) p.moves p.now p.lamps (eqb i (bank_of p)) t)
-      (λ t. bank-step p.rig_at p.banks (bank_of p) i (targets_of p.silenced) p.moves p.now p.lamps (eqb i (bank_of p)) t here few)
+      (λ t. stepped_if p.rig_at p.banks (bank_of p) i (targets_of p.silenced) p.moves p.now p.lamps (eqb i (bank_of p)) t)
+      (λ t. bank_step p.rig_at p.banks (bank_of p) i (targets_of p.silenced) p.moves p.now p.lamps (eqb i (bank_of p)) t here few)
 
-  command-ok : (kind : ℕ) → Chooses false (command kind p)
-  command-ok kind = steady (giving (makes-run p.rig kind)) (λ t. refl) (λ t. here)
+  command_ok : (kind : ℕ) → Chooses false (command kind p)
+  command_ok kind = steady (giving (makes_run p.rig kind)) (λ t. refl) (λ t. here)
 
-  mute-ok : (n : ℕ) → Chooses false (mute_as n p)
+  mute_ok : (n : ℕ) → Chooses false (mute_as n p)
   unfolding next
-  mute-ok n = steady (bind (makes-mute p.rig n p.lamps p.silenced) (λ s. still {a = pressed (bank_of p) p.lamps s false false})) (λ t. refl) (λ t. here)
+  mute_ok n = steady (bind (makes_mute p.rig n p.lamps p.silenced) (λ s. still {a = pressed (bank_of p) p.lamps s false false})) (λ t. refl) (λ t. here)
 
-  solo-ok : (n : ℕ) → Chooses false (solo_as n p)
+  solo_ok : (n : ℕ) → Chooses false (solo_as n p)
   unfolding next
-  solo-ok n = steady (bind (makes-solo p.rig n p.lamps p.silenced) (λ x. still {a = pressed (bank_of p) x.lamps x.silenced false false})) (λ t. refl) (λ t. here)
+  solo_ok n = steady (bind (makes_solo p.rig n p.lamps p.silenced) (λ x. still {a = pressed (bank_of p) x.lamps x.silenced false false})) (λ t. refl) (λ t. here)
 
-  rec-as : (b : Bool) (ch : ℕ) → Chooses false (rec_as b ch p)
+  rec_as_lem : (b : Bool) (ch : ℕ) → Chooses false (rec_as b ch p)
   unfolding next
-  rec-as true ch =
+  rec_as_lem true ch =
       record {
         grown = λ t e. weaken (λ l q. sym q) ((loads-scene p.rig (targets_of p.silenced) p.moves p.now (ch + 1) p.lamps).grown t e);
         bank = λ t. here;
       }
-  rec-as false ch = command-ok 0
+  rec_as_lem false ch = command_ok 0
 
-  rec-ok : (ch : ℕ) → Chooses false (rec ch p)
+  rec_ok : (ch : ℕ) → Chooses false (rec ch p)
   unfolding next
-  rec-ok ch =
+  rec_ok ch =
       record {
         grown = λ t e.
             let u = rec_loads p.rig t in
-            let b = (rec-as u.value ch).grown u.talk e in
-            let a = (makes-rec_loads p.rig).grown t b.was in
+            let b = (rec_as_lem u.value ch).grown u.talk e in
+            let a = (makes_rec_loads p.rig).grown t b.was in
             join a b (λ l q. q ∙ sym (loads-append (paired a.more t.left) l ∙ ap (λ (x : Bool). x || loads l) (only_none a.fact)));
-        bank = λ t. (rec-as (rec_loads p.rig t).value ch).bank (rec_loads p.rig t).talk;
+        bank = λ t. (rec_as_lem (rec_loads p.rig t).value ch).bank (rec_loads p.rig t).talk;
       }
 
-  select-ok : (b : Bool) (ch : ℕ) → Chooses (b && not (leb p.banks ch)) (select_as b ch p)
+  select_ok : (b : Bool) (ch : ℕ) → Chooses (b && not (leb p.banks ch)) (select_as b ch p)
   unfolding next
-  select-ok true ch =
+  select_ok true ch =
       steady
       (bind (makes_select p.rig_at p.banks (bank_of p) ch (targets_of p.silenced) p.moves p.now p.lamps)
       (λ x. still {a = of_bank p.silenced x}))
-      (λ t. selected-so p.rig_at p.banks (bank_of p) ch (targets_of p.silenced) p.moves p.now p.lamps t)
-      (λ t. bank-so p.rig_at p.banks (bank_of p) ch (targets_of p.silenced) p.moves p.now p.lamps t here few)
-  select-ok false ch = command-ok 3
+      (λ t. selected_so p.rig_at p.banks (bank_of p) ch (targets_of p.silenced) p.moves p.now p.lamps t)
+      (λ t. bank_so p.rig_at p.banks (bank_of p) ch (targets_of p.silenced) p.moves p.now p.lamps t here few)
+  select_ok false ch = command_ok 3
 
   -- what the account says of the press
   abbrev chosen : ℕ → ℕ → Bool
@@ -492,9 +492,9 @@ module _ (p : Press) (few : p.banks ≤ 16) (here : bank_of p < 16) where
       (pick (eqb kind 4 || eqb kind 8) (steps false p.banks (bank_of p))
       (pick (eqb kind 3) (p.rig.here.part.select && not (leb p.banks ch)) false))
 
-  pub press-ok : (kind ch : ℕ) → Chooses (chosen kind ch) (press_of kind ch p)
+  pub press_ok : (kind ch : ℕ) → Chooses (chosen kind ch) (press_of kind ch p)
   unfolding press_of
-  press-ok kind ch = at7 (eqb kind 7) refl
+  press_ok kind ch = at7 (eqb kind 7) refl
     where
       sel : Bool
       sel = p.rig.here.part.select && not (leb p.banks ch)
@@ -521,39 +521,39 @@ module _ (p : Press) (few : p.banks ≤ 16) (here : bank_of p < 16) where
       act6 = pick (eqb kind 6) (page false p) act5
 
       at3 : (b : Bool) → Chooses (pick b sel false) (pick b (select_as p.rig.here.part.select ch p) (command kind p))
-      at3 true = select-ok p.rig.here.part.select ch
-      at3 false = command-ok kind
+      at3 true = select_ok p.rig.here.part.select ch
+      at3 false = command_ok kind
 
       at0 : (b : Bool) → eqb kind 0 ≡ b → Chooses (pick (eqb kind 3) sel false) (pick b (rec ch p) act3)
-      at0 true e = subst (λ (k : ℕ). Chooses (pick (eqb k 3) sel false) (rec ch p)) (sym (eqb-true kind 0 e)) (rec-ok ch)
+      at0 true e = subst (λ (k : ℕ). Chooses (pick (eqb k 3) sel false) (rec ch p)) (sym (eqb-true kind 0 e)) (rec_ok ch)
       at0 false e = at3 (eqb kind 3)
 
       at1 : (b : Bool) → eqb kind 1 ≡ b → Chooses (pick (eqb kind 3) sel false) (pick b (solo_as (ch + 1) p) act0)
-      at1 true e = subst (λ (k : ℕ). Chooses (pick (eqb k 3) sel false) (solo_as (ch + 1) p)) (sym (eqb-true kind 1 e)) (solo-ok (ch + 1))
+      at1 true e = subst (λ (k : ℕ). Chooses (pick (eqb k 3) sel false) (solo_as (ch + 1) p)) (sym (eqb-true kind 1 e)) (solo_ok (ch + 1))
       at1 false e = at0 (eqb kind 0) refl
 
       at2 : (b : Bool) → eqb kind 2 ≡ b → Chooses (pick (eqb kind 3) sel false) (pick b (mute_as (ch + 1) p) act1)
-      at2 true e = subst (λ (k : ℕ). Chooses (pick (eqb k 3) sel false) (mute_as (ch + 1) p)) (sym (eqb-true kind 2 e)) (mute-ok (ch + 1))
+      at2 true e = subst (λ (k : ℕ). Chooses (pick (eqb k 3) sel false) (mute_as (ch + 1) p)) (sym (eqb-true kind 2 e)) (mute_ok (ch + 1))
       at2 false e = at1 (eqb kind 1) refl
 
       at4 : (b : Bool) → Chooses (pick b (steps false p.banks (bank_of p)) (pick (eqb kind 3) sel false)) (pick b (walk false p) act2)
-      at4 true = walk-ok false
+      at4 true = walk_ok false
       at4 false = at2 (eqb kind 2) refl
 
       at5 : (b : Bool) →
           Chooses (pick b (steps true p.banks (bank_of p)) (pick (eqb kind 4 || eqb kind 8) (steps false p.banks (bank_of p)) (pick (eqb kind 3) sel false)))
           (pick b (walk true p) act4)
-      at5 true = walk-ok true
+      at5 true = walk_ok true
       at5 false = at4 (eqb kind 4 || eqb kind 8)
 
       at6 : (b : Bool) → eqb kind 6 ≡ b → Chooses (chosen kind ch) (pick b (page false p) act5)
-      at6 true e = subst (λ (k : ℕ). Chooses (chosen k ch) (page false p)) (sym (eqb-true kind 6 e)) (page-ok false)
+      at6 true e = subst (λ (k : ℕ). Chooses (chosen k ch) (page false p)) (sym (eqb-true kind 6 e)) (page_ok false)
       at6 false e = at5 (eqb kind 5 || eqb kind 9)
 
       at7 : (b : Bool) → eqb kind 7 ≡ b → Chooses (chosen kind ch) (pick b (page true p) act6)
-      at7 true e = subst (λ (k : ℕ). Chooses (chosen k ch) (page true p)) (sym (eqb-true kind 7 e)) (page-ok true)
+      at7 true e = subst (λ (k : ℕ). Chooses (chosen k ch) (page true p)) (sym (eqb-true kind 7 e)) (page_ok true)
       at7 false e = at6 (eqb kind 6) refl
 
-  pub button-ok : (note : ℕ) → Chooses (chosen (kind_of note) (or_first (channel_of note))) (button note p)
+  pub button_ok_lem : (note : ℕ) → Chooses (chosen (kind_of note) (or_first (channel_of note))) (button note p)
   unfolding button
-  button-ok note = press-ok (kind_of note) (or_first (channel_of note))
+  button_ok_lem note = press_ok (kind_of note) (or_first (channel_of note))

@@ -75,12 +75,12 @@ abbrev idle_if : Bool → Stepper
 idle_if true v k e answers = stepped (done [] [] 0 false) k
 idle_if false v k e answers = step v k e answers
 
-abbrev drains-once : Stepper
-drains-once v k e answers = idle_if (idle e.what k.site.due) v k e answers
+abbrev drains_once : Stepper
+drains_once v k e answers = idle_if (idle e.what k.site.due) v k e answers
 
-refuted-1 : Claim drains-once → ⊥
+refuted_1 : Claim drains_once → ⊥
 unfolding pasts final account step refusal act fader take_move tick drain drained nudges writes refresh_live tick_flash destination own_fader read read_of write write_of use_done use_call open_for is_open opening ask next plain_call write_call answer_of to_other item_count items_of is_marked mark_at moved_to place_move change lined replaced_by tried_of dropped_of paired opens seen fresh_session seen_strips beside
-refuted-1 c =
+refuted_1 c =
     let os : List Offer = at (move 0 f1) [] ∷ at input.Tick (done_then (done_then [])) ∷ at (move 0 most) [] ∷ at input.Tick [] ∷ [] in
     let e : ◌≡◌ {A = ℕ} 1 0 = ap length (c (plain false) (omega arith) os).line in
     omega arith
@@ -98,13 +98,13 @@ remarked input.PushState m r = r
 remarked input.PushTransport m r = r
 remarked input.FlashBank m r = r
 
-abbrev never-clears : Stepper
-never-clears v k e answers = remarked e.what k.desk.marks (step v k e answers)
+abbrev never_clears : Stepper
+never_clears v k e answers = remarked e.what k.desk.marks (step v k e answers)
 
 -- a move where the device reads nothing is taken over; bank right and left; then the device is far off, and the move is to be held
-refuted-2 : Claim never-clears → ⊥
+refuted_2 : Claim never_clears → ⊥
 unfolding pasts final account step refusal added_by act fader take_move hold_move button press_of step_bank select_bank next_bank flash_bank flash_number finish_flash phases phases_to send_home flashing no_flash push_state push_faders push_fader push_position is_muted destination own_fader read read_of use_call open_for is_open opening ask next plain_call answer_of to_read to_other item_count items_of send bytes_of held is_marked mark_at no_marks last_move moved_to place_move change reading lined replaced_by paired opens loads selects kind_of channel_of base_of named_of first le64 add sub mul div lt le eq of_bits abs_of clamp_of seen fresh_session seen_strips beside
-refuted-2 c =
+refuted_2 c =
     let os : List Offer =
     at (move 0 most) (done_then (nothing_then [])) ∷ at (press 0x2f) [] ∷ at (press 0x2e) [] ∷ at (move 0 f1) (level_then 0xe0 0x3f []) ∷ [] in
     false≢true (sym (ap (head_is f1) (c (plain true) (omega arith) os).line))
@@ -121,36 +121,36 @@ relined input.PushState f r = r
 relined input.PushTransport f r = r
 relined input.FlashBank f r = r
 
-abbrev sends-replaced : Stepper
-sends-replaced v k e answers = relined e.what (λ ch x. k.desk.line ++ (move_of ch x ∷ [])) (step v k e answers)
+abbrev sends_replaced : Stepper
+sends_replaced v k e answers = relined e.what (λ ch x. k.desk.line ++ (move_of ch x ∷ [])) (step v k e answers)
 
-refuted-3 : Claim sends-replaced → ⊥
+refuted_3 : Claim sends_replaced → ⊥
 unfolding pasts final account step refusal act fader take_move destination own_fader is_marked mark_at moved_to place_move change lined replaced_by paired opens next seen fresh_session seen_strips beside
-refuted-3 c =
+refuted_3 c =
     let os : List Offer = at (move 0 most) [] ∷ at (move 0 f1) [] ∷ [] in
     let e : ◌≡◌ {A = ℕ} 2 1 = ap length (c (plain false) (omega arith) os).line in
     omega arith
 
 -- ── 4: it loses the order of the line ──
 
-abbrev loses-order : Stepper
-loses-order v k e answers = relined e.what (λ ch x. move_of ch x ∷ k.desk.line) (step v k e answers)
+abbrev loses_order : Stepper
+loses_order v k e answers = relined e.what (λ ch x. move_of ch x ∷ k.desk.line) (step v k e answers)
 
-refuted-4 : Claim loses-order → ⊥
+refuted_4 : Claim loses_order → ⊥
 unfolding pasts final account step refusal act fader take_move destination own_fader is_marked mark_at moved_to place_move change lined replaced_by paired opens next seen fresh_session seen_strips beside
-refuted-4 c =
+refuted_4 c =
     let os : List Offer = at (move 0 most) [] ∷ at (move 1 f1) [] ∷ [] in
     let e : ◌≡◌ {A = ℕ} 1 0 = ap head_channel (c (plain false) (omega arith) os).line in
     omega arith
 
 -- ── 5: it leaves the session idle ──
 
-abbrev keeps-nothing : Stepper
-keeps-nothing v k e answers = stepped (step v k e answers).ended k
+abbrev keeps_nothing : Stepper
+keeps_nothing v k e answers = stepped (step v k e answers).ended k
 
-refuted-5 : Claim keeps-nothing → ⊥
+refuted_5 : Claim keeps_nothing → ⊥
 unfolding pasts final account step refusal act fader take_move destination own_fader is_marked mark_at moved_to place_move change lined replaced_by paired opens next seen fresh_session seen_strips beside
-refuted-5 c =
+refuted_5 c =
     let e : ◌≡◌ {A = ℕ} 0 1 = ap length (c (plain false) (omega arith) (at (move 0 f1) [] ∷ [])).line in
     omega arith
 
@@ -167,17 +167,17 @@ abbrev writes_nothing : Stepper
 writes_nothing v k e answers = emptied e.what k (step v k e answers)
 
 -- a tried move has a call
-tries-some : {o : List Bool} {t : Tried} {ts : List Tried} {l : List Asked} → Tries o (t ∷ ts) l → 1 ≤ length l
-tries-some (tried-one {l = l} u r) = at_least l u
+tries_some : {o : List Bool} {t : Tried} {ts : List Tried} {l : List Asked} → Tries o (t ∷ ts) l → 1 ≤ length l
+tries_some (tried-one {l = l} u r) = at_least l u
   where
     at_least : (l : List Asked) {o : List Bool} {c : Call} {r : Reply} {m : List Asked} → Uses o c r m → 1 ≤ length (m ++ l)
     at_least l (used n) = omega arith
     at_least l (opened-used n) = omega arith
     at_least l (not-used n) = omega arith
 
-refuted-6 : Claim writes_nothing → ⊥
+refuted_6 : Claim writes_nothing → ⊥
 unfolding pasts final account ticks step refusal act fader take_move destination own_fader is_marked mark_at moved_to place_move change lined replaced_by tried_of paired opens next seen fresh_session seen_strips beside
-refuted-6 c = go (c (plain false) (omega arith) (at (move 0 f1) [] ∷ at input.Tick [] ∷ [])).drains
+refuted_6 c = go (c (plain false) (omega arith) (at (move 0 f1) [] ∷ at input.Tick [] ∷ [])).drains
   where
     none_left : (l m n : List Asked) → [] ≡ l ++ (m ++ n) → 1 ≤ length m → ⊥
     none_left [] [] n e h = omega arith
@@ -185,7 +185,7 @@ refuted-6 c = go (c (plain false) (omega arith) (at (move 0 f1) [] ∷ at input.
     none_left (x ∷ l) m n e h = let z : ◌≡◌ {A = ℕ} 0 (length (x ∷ l ++ (m ++ n))) = ap length e in omega arith
 
     go : {o : List Bool} {s : _} {t : Tried} {ts : List Tried} → Each Drained ([] ∷ []) (record { opened = o; sums = s; tried = t ∷ ts } ∷ []) → ⊥
-    go (one_more d r) = none_left d.encoders d.faders d.later d.all (tries-some d.then)
+    go (one_more d r) = none_left d.encoders d.faders d.later d.all (tries_some d.then)
 
 -- ── 7: it writes a move at once, too ──
 
@@ -199,12 +199,12 @@ hasty input.PushState r = r
 hasty input.PushTransport r = r
 hasty input.FlashBank r = r
 
-abbrev writes-at-once : Stepper
-writes-at-once v k e answers = hasty e.what (step v k e answers)
+abbrev writes_at_once : Stepper
+writes_at_once v k e answers = hasty e.what (step v k e answers)
 
-refuted-7 : Claim writes-at-once → ⊥
+refuted_7 : Claim writes_at_once → ⊥
 unfolding pasts moved paired write_call
-refuted-7 c = go (c (plain false) (omega arith) (at (move 0 f1) (done_then []) ∷ [])).quiet
+refuted_7 c = go (c (plain false) (omega arith) (at (move 0 f1) (done_then []) ∷ [])).quiet
   where
     go : {r : Reply} {l : List Asked} → Only not_write (saying (writing (dest false) f1) r ∷ l) → ⊥
     go (one-call e h) = false≢true e
@@ -218,17 +218,17 @@ returned input.PushState d r = r
 returned input.PushTransport d r = r
 returned input.FlashBank d r = r
 
-abbrev hands-twice : Stepper
-hands-twice v k e answers = returned e.what k.desk (step v k e answers)
+abbrev hands_twice : Stepper
+hands_twice v k e answers = returned e.what k.desk (step v k e answers)
 
 abbrev size_of : ℤ → ℕ
 size_of (pos n) = n
 size_of (negsuc n) = 0
 
 -- the device reads nothing, so that the sum is handed over unwritten
-refuted-8 : Claim hands-twice → ⊥
+refuted_8 : Claim hands_twice → ⊥
 unfolding pasts final account step refusal turn_refusal act encoder turn tick drain drained nudges apply_nudge writes refresh_live tick_flash encoder_dest find read read_of use_call open_for is_open opening ask next plain_call answer_of to_read to_other item_count items_of change summed sum_for same_dest every eq of_bits paired opens tried_of dropped_of seen fresh_session seen_strips beside
-refuted-8 c =
+refuted_8 c =
     let os : List Offer = at (input.Midi (event.Encoder 0 (pos 1))) [] ∷ at input.Tick (done_then (nothing_then [])) ∷ [] in
     let e : ◌≡◌ {A = ℕ} 1 0 = ap size_of ((c (plain false) (omega arith) os).sums (dest false)) in
     omega arith
@@ -242,8 +242,8 @@ loud input.PushState r = r
 loud input.PushTransport r = r
 loud input.FlashBank r = r
 
-abbrev writes-another : Stepper
-writes-another v k e answers = loud e.what (step v k e answers)
+abbrev writes_another : Stepper
+writes_another v k e answers = loud e.what (step v k e answers)
 
 abbrev kind_first : List Asked → ℕ
 kind_first [] = 0
@@ -270,19 +270,19 @@ next_level later asked (tried-one {t = t} {l = l} u r) e k d = go u e
     go (opened-used n) e = ap level_next e
     go (not-used n) e = absurd (false≢true (sym (ap done_first e) ∙ d))
 
-refuted-9 : Claim writes-another → ⊥
+refuted_9 : Claim writes_another → ⊥
 unfolding pasts final account ticks step refusal act fader take_move tick drain drained nudges writes refresh_live tick_flash write write_of use_done use_call open_for is_open opening ask items_of destination own_fader is_marked mark_at moved_to place_move change lined replaced_by tried_of paired opens next plain_call write_call answer_of to_other item_count add sub mul of_bits to_bits seen fresh_session seen_strips beside
-refuted-9 c = go (c (plain false) (omega arith) (at (move 0 f1) [] ∷ at input.Tick (done_then (done_then [])) ∷ [])).drains
+refuted_9 c = go (c (plain false) (omega arith) (at (move 0 f1) [] ∷ at input.Tick (done_then (done_then [])) ∷ [])).drains
   where
     asked : List Asked
     asked = saying (open_of (writing (dest false) f0)) done_reply ∷ saying (writing (dest false) f0) done_reply ∷ []
 
-    no-sums : {o : List Bool} {l : List Asked} → Nudges o [] l → l ≡ []
-    no-sums nudged-all = refl
+    no_sums : {o : List Bool} {l : List Asked} → Nudges o [] l → l ≡ []
+    no_sums nudged-all = refl
 
     go : {o : List Bool} {i : ℕ} → Each Drained (asked ∷ []) (record { opened = o; sums = []; tried = record { id = i; dest = dest false; level = f1 } ∷ [] } ∷ []) → ⊥
     go (one_more d r) =
-        let e : asked ≡ d.faders ++ d.later = rw (no-sums d.first) at d.all in
+        let e : asked ≡ d.faders ++ d.later = rw (no_sums d.first) at d.all in
         let z : ◌≡◌ {A = ℕ} 0 (to_bits binary64 f1) = next_level d.later asked d.then e refl refl in
         omega arith
 
@@ -292,44 +292,44 @@ abbrev remarked_in : Bool → Input → Marks → Stepped → Stepped
 remarked_in true e m r = remarked e m r
 remarked_in false e m r = r
 
-abbrev keeps-on-load : Stepper
-keeps-on-load v k e answers =
+abbrev keeps_on_load : Stepper
+keeps_on_load v k e answers =
     remarked_in (eqb k.site.bank (step v k e answers).kept.site.bank) e.what k.desk.marks (step v k e answers)
 
 -- the device knows no current scene, lists one, and loads it
-abbrev scene-answers : List ℕ
-scene-answers = nothing_then (6 ∷ 0 ∷ 1 ∷ 0 ∷ 0 ∷ 0 ∷ 0 ∷ 0 ∷ 0 ∷ 0 ∷ 0 ∷ 0 ∷ 0 ∷ 0 ∷ 0 ∷ 0 ∷ 7 ∷ 0 ∷ 5 ∷ 0 ∷ 0 ∷ 0 ∷ 0 ∷ 0 ∷ 0 ∷ 0 ∷ 0 ∷ 0 ∷ 0 ∷ 0 ∷ 0 ∷ 0 ∷ done_then [])
+abbrev scene_answers : List ℕ
+scene_answers = nothing_then (6 ∷ 0 ∷ 1 ∷ 0 ∷ 0 ∷ 0 ∷ 0 ∷ 0 ∷ 0 ∷ 0 ∷ 0 ∷ 0 ∷ 0 ∷ 0 ∷ 0 ∷ 0 ∷ 7 ∷ 0 ∷ 5 ∷ 0 ∷ 0 ∷ 0 ∷ 0 ∷ 0 ∷ 0 ∷ 0 ∷ 0 ∷ 0 ∷ 0 ∷ 0 ∷ 0 ∷ 0 ∷ done_then [])
 
-refuted-10 : Claim keeps-on-load → ⊥
+refuted_10 : Claim keeps_on_load → ⊥
 unfolding pasts final account step refusal added_by act fader take_move hold_move button press_of next_bank step_scene scene scene_names scene_on_device load_on load_scene_at start scene_at scene_to scene_unknown solo_to none_noted position device bank_driver flash_number finish_flash phases phases_to send_home flashing no_flash push_state push_faders push_fader push_position is_muted destination own_fader read read_of use_done use_call open_for is_open opening ask next plain_call scenes_of current_of load_of answer_of to_read to_scenes scene_list to_current to_other item_count items_of all send bytes_of held is_marked mark_at no_marks last_move moved_to place_move change reading lined replaced_by paired opens loads selects kind_of channel_of base_of named_of first le64 add sub mul div lt le eq of_bits abs_of clamp_of seen fresh_session seen_strips beside
-refuted-10 c =
-    let os : List Offer = at (move 0 most) (done_then (nothing_then [])) ∷ at (press 0x63) scene-answers ∷ at (move 0 f1) (level_then 0xe0 0x3f []) ∷ [] in
+refuted_10 c =
+    let os : List Offer = at (move 0 most) (done_then (nothing_then [])) ∷ at (press 0x63) scene_answers ∷ at (move 0 f1) (level_then 0xe0 0x3f []) ∷ [] in
     false≢true (sym (ap (head_is f1) (c paged (omega arith) os).line))
 
 -- ── 11: it keeps the marks when the live list changes ──
 
-abbrev kept-live : Input → Marks → Stepped → Stepped
-kept-live (input.Midi e) m r = r
-kept-live input.Tick m r = with_desk (desk m r.kept.desk.moves r.kept.desk.line r.kept.desk.turns) r
-kept-live input.PushState m r = r
-kept-live input.PushTransport m r = r
-kept-live input.FlashBank m r = r
+abbrev kept_live : Input → Marks → Stepped → Stepped
+kept_live (input.Midi e) m r = r
+kept_live input.Tick m r = with_desk (desk m r.kept.desk.moves r.kept.desk.line r.kept.desk.turns) r
+kept_live input.PushState m r = r
+kept_live input.PushTransport m r = r
+kept_live input.FlashBank m r = r
 
-abbrev keeps-on-live : Stepper
-keeps-on-live v k e answers = kept-live e.what k.desk.marks (step v k e answers)
+abbrev keeps_on_live : Stepper
+keeps_on_live v k e answers = kept_live e.what k.desk.marks (step v k e answers)
 
 -- a live list of one fader, number 1, on a target
-abbrev live-list : ℕ → List ℕ
-live-list target = 6 ∷ 0 ∷ 1 ∷ 0 ∷ 0 ∷ 0 ∷ 0 ∷ 0 ∷ 0 ∷ 0 ∷ 0 ∷ 0 ∷ 0 ∷ 0 ∷ 0 ∷ 0 ∷ 7 ∷ 1 ∷ target ∷ 0 ∷ 0 ∷ 0 ∷ 0 ∷ 0 ∷ 255 ∷ 255 ∷ 0 ∷ 0 ∷ 0 ∷ 0 ∷ 0 ∷ 0 ∷ []
+abbrev live_list_lem : ℕ → List ℕ
+live_list_lem target = 6 ∷ 0 ∷ 1 ∷ 0 ∷ 0 ∷ 0 ∷ 0 ∷ 0 ∷ 0 ∷ 0 ∷ 0 ∷ 0 ∷ 0 ∷ 0 ∷ 0 ∷ 0 ∷ 7 ∷ 1 ∷ target ∷ 0 ∷ 0 ∷ 0 ∷ 0 ∷ 0 ∷ 255 ∷ 255 ∷ 0 ∷ 0 ∷ 0 ∷ 0 ∷ 0 ∷ 0 ∷ []
 
 abbrev at_one : Input → List ℕ → Offer
 at_one e answers = record { event = event-read.Known (record { time = f1; what = e }); answers = answers }
 
 -- the list comes, a move on it is taken over, a second later the list is another, and the next move there is to be held
-refuted-11 : Claim keeps-on-live → ⊥
+refuted_11 : Claim keeps_on_live → ⊥
 unfolding pasts final account step refusal act fader take_move hold_move tick drain drained nudges writes refresh_live live_of strips_of strip_of strip_at strip_dest same_strips same_strip keep find tick_flash write write_of write_call unmark_bank unmark_up_to push_state push_faders push_fader push_position is_muted destination own_fader read read_of use_done use_call open_for is_open opening ask next plain_call answer_of to_read to_live live_list to_other item_count items_of all send bytes_of held is_marked mark_at no_marks last_move moved_to place_move change reading lined replaced_by tried_of dropped_of paired opens le64 add sub mul div lt le eq of_bits to_bits abs_of clamp_of seen fresh_session seen_strips beside
-refuted-11 c =
+refuted_11 c =
     let os : List Offer =
-    at input.Tick (done_then (live-list 7)) ∷ at (move 0 most) (nothing_then []) ∷ at_one input.Tick (done_then (live-list 8)) ∷ at_one (move 0 f1) (level_then 0xe0 0x3f []) ∷ [] in
+    at input.Tick (done_then (live_list_lem 7)) ∷ at (move 0 most) (nothing_then []) ∷ at_one input.Tick (done_then (live_list_lem 8)) ∷ at_one (move 0 f1) (level_then 0xe0 0x3f []) ∷ [] in
     let e : ◌≡◌ {A = ℕ} 1 0 = ap length (c alive (omega arith) os).line in
     omega arith

@@ -8,7 +8,7 @@ use lib.Dec.{eqb}
 use lib.IntN.{ℤ, ◌+ℤ◌}
 use Rattle.protocol.specs.declared.Event.TheVariants as event
 use Rattle.profile.specs.Profile.{verdict}
-use Rattle.profile.specs.Accepted.{few-banks}
+use Rattle.profile.specs.Accepted.{few_banks}
 use Rattle.lookup.specs.View.{View, view_of}
 use Rattle.lookup.specs.declared.Destination.{Destination}
 use Rattle.lookup.specs.declared.Found.{Found}
@@ -26,9 +26,9 @@ use Rattle.definition.specs.Rig.{destination, encoder_dest}
 use Rattle.definition.specs.Faders.{is_held}
 use Rattle.definition.specs.Step.{Site, Kept, kept, seen, Left, act, refusal, Stepped, finish, step_if, step}
 use Rattle.account.specs.Account.{past_of, Offer, step_of, pasts, final, Account, blank, Waits, Drained, Each, no_more, one_more, reading, rig_in, book_if, book_move, book_turn, book_press, press_moves, book_live, book_drain, book_event, book, account, same_live, live_at, count, move_at, moves, turn_at, turns, tick_at, ticks, tick_in, moved_at, moved, Only, no_call, not_write, sum_for, handed, tried, Holds, ClaimFrom, Begins, Demand3, fresh}
-use Rattle.account.proofs.Frame.{only-append}
-use Rattle.account.proofs.Bridge.{desk_of, Booked, Books, Placed, act-ok, drain_in}
-use Rattle.account.proofs.Counts.{fates, fates-event, total, total-event, count-append, moves-once, sum-append}
+use Rattle.account.proofs.Frame.{only_append}
+use Rattle.account.proofs.Bridge.{desk_of, Booked, Books, Placed, act_ok, drain_in}
+use Rattle.account.proofs.Counts.{fates, fates_event, total, total_event, count-append, moves_once, sum_append}
 
 module _ {A B : Type 0} {R : A → B → Type 0} where
   each_append : {xs xs' : List A} {ys ys' : List B} → Each R xs ys → Each R xs' ys' → Each R (xs ++ xs') (ys ++ ys')
@@ -49,8 +49,8 @@ record Inv (ms : List ℕ) (ts : List Turn) (ks : List (List Asked)) (qs : List 
 
 -- which drains an event adds
 module _ (v : View) (i : ℕ) (w z : Site) (answers : List ℕ) (asked : List Asked) (a : Account) where
-  drains-event : (e : Input) → (book_event v i e w z answers asked a).drains ≡ a.drains ++ drain_in e (rig_in v w) a
-  drains-event (input.Midi (event.Fader ch x)) = go (destination (rig_in v w) (ch + 1)) ∙ sym (append-nil a.drains)
+  drains_event : (e : Input) → (book_event v i e w z answers asked a).drains ≡ a.drains ++ drain_in e (rig_in v w) a
+  drains_event (input.Midi (event.Fader ch x)) = go (destination (rig_in v w) (ch + 1)) ∙ sym (append-nil a.drains)
     where
       m : Waits
       m = record { id = i; channel = ch; level = x }
@@ -63,25 +63,25 @@ module _ (v : View) (i : ℕ) (w z : Site) (answers : List ℕ) (asked : List As
       go found.Nothing = refl
       go (found.To d) =
           at ((d.takeover && not (is_marked (w.bank * 16 + ch) a.marks)) && is_held (reading d answers a.opened) (last_move (w.bank * 16 + ch) a.last) x)
-  drains-event (input.Midi (event.Encoder ch n)) = go (encoder_dest (rig_in v w) (ch + 1)) ∙ sym (append-nil a.drains)
+  drains_event (input.Midi (event.Encoder ch n)) = go (encoder_dest (rig_in v w) (ch + 1)) ∙ sym (append-nil a.drains)
     where
       go : (f : Found) → (book_turn f n a).drains ≡ a.drains
       go found.Nothing = refl
       go (found.To d) = refl
-  drains-event (input.Midi (event.Button b)) = go (press_moves v w b.pressed b.note asked) ∙ sym (append-nil a.drains)
+  drains_event (input.Midi (event.Button b)) = go (press_moves v w b.pressed b.note asked) ∙ sym (append-nil a.drains)
     where
       go : (c : Bool) → (book_press c a).drains ≡ a.drains
       go true = refl
       go false = refl
-  drains-event (input.Midi event.Other) = sym (append-nil a.drains)
-  drains-event input.Tick = go (same_live (live_at w.bank w) (live_at w.bank z))
+  drains_event (input.Midi event.Other) = sym (append-nil a.drains)
+  drains_event input.Tick = go (same_live (live_at w.bank w) (live_at w.bank z))
     where
       go : (c : Bool) → (book_live c w.bank (book_drain (rig_in v w) a)).drains ≡ a.drains ++ drain_in input.Tick (rig_in v w) a
       go true = refl
       go false = refl
-  drains-event input.PushState = sym (append-nil a.drains)
-  drains-event input.PushTransport = sym (append-nil a.drains)
-  drains-event input.FlashBank = sym (append-nil a.drains)
+  drains_event input.PushState = sym (append-nil a.drains)
+  drains_event input.PushTransport = sym (append-nil a.drains)
+  drains_event input.FlashBank = sym (append-nil a.drains)
 
 -- ── one event ──
 
@@ -106,33 +106,33 @@ module _ (v : View) (i : ℕ) (e : Timed) (answers : List ℕ) (k : Kept) (a : A
         desk = b.desk;
         opened = b.opened;
         placed = b.placed;
-        fate = λ n. omega (arith, h.fate n, count-append n ms (move_at v i (past_of (event-read.Known e) k.site answers (finish going v k r))), fates-event v i k.site x.site answers l a n e.what);
-        drains = subst (Each Drained (ks ++ tick_in e.what l)) (sym (drains-event v i k.site x.site answers l a e.what)) (each_append h.drains b.drains);
-        quiet = only-append h.quiet b.quiet;
+        fate = λ n. omega (arith, h.fate n, count-append n ms (move_at v i (past_of (event-read.Known e) k.site answers (finish going v k r))), fates_event v i k.site x.site answers l a n e.what);
+        drains = subst (Each Drained (ks ++ tick_in e.what l)) (sym (drains_event v i k.site x.site answers l a e.what)) (each_append h.drains b.drains);
+        quiet = only_append h.quiet b.quiet;
         turned = λ d.
-            sum-append d ts _ ∙ ap (λ (z : ℤ). z +ℤ sum_for d (turn_at v (past_of (event-read.Known e) k.site answers (finish going v k r)))) (h.turned d)
-            ∙ sym (total-event v i k.site x.site answers l a d e.what);
+            sum_append d ts _ ∙ ap (λ (z : ℤ). z +ℤ sum_for d (turn_at v (past_of (event-read.Known e) k.site answers (finish going v k r)))) (h.turned d)
+            ∙ sym (total_event v i k.site x.site answers l a d e.what);
       }
   one r (waits c) f = none_so
   one r declined f = none_so
   one r overrun f = none_so
 
-  step-if : (b : Bool) (why : ℕ) → v.banks ≤ 16 → After v i (event-read.Known e) answers k a ms ts ks qs (step_if b why e v k answers)
-  step-if true why few = one (act e.what v k e.time (start answers k.opened)) _ (acted few)
+  step_if_lem : (b : Bool) (why : ℕ) → v.banks ≤ 16 → After v i (event-read.Known e) answers k a ms ts ks qs (step_if b why e v k answers)
+  step_if_lem true why few = one (act e.what v k e.time (start answers k.opened)) _ (acted few)
     where
       acted : v.banks ≤ 16 → Books v i k.site a e.what answers (act e.what v k e.time (start answers k.opened))
       acted few =
           subst (λ (o : List Bool). Books v i k.site a e.what answers (act e.what v (kept k.site k.desk k.lamps k.silenced o) e.time (start answers o))) (sym h.opened)
           (subst (λ d. Books v i k.site a e.what answers (act e.what v (kept k.site d k.lamps k.silenced a.opened) e.time (start answers a.opened))) (sym h.desk)
-          (act-ok v i k.site k.lamps k.silenced a answers e.time few h.placed e.what))
-  step-if false why few = none_so
+          (act_ok v i k.site k.lamps k.silenced a answers e.time few h.placed e.what))
+  step_if_lem false why few = none_so
 
-offered-so : (v : View) → v.banks ≤ 16 → (i : ℕ) (e : Read) (answers : List ℕ) (k : Kept) (a : Account) (ms : List ℕ) (ts : List Turn) (ks : List (List Asked)) (qs : List Asked) →
+offered_so : (v : View) → v.banks ≤ 16 → (i : ℕ) (e : Read) (answers : List ℕ) (k : Kept) (a : Account) (ms : List ℕ) (ts : List Turn) (ks : List (List Asked)) (qs : List Asked) →
     Inv ms ts ks qs k a → After v i e answers k a ms ts ks qs (step_of step v k e answers)
 unfolding step
-offered-so v few i (event-read.Known e) answers k a ms ts ks qs h =
-    step-if v i e answers k a ms ts ks qs h (eqb (refusal e.what v k e.time) 0) (refusal e.what v k e.time) few
-offered-so v few i event-read.Unknown answers k a ms ts ks qs h = rw (append-nil, append-nil, append-nil, append-nil) h
+offered_so v few i (event-read.Known e) answers k a ms ts ks qs h =
+    step_if_lem v i e answers k a ms ts ks qs h (eqb (refusal e.what v k e.time) 0) (refusal e.what v k e.time) few
+offered_so v few i event-read.Unknown answers k a ms ts ks qs h = rw (append-nil, append-nil, append-nil, append-nil) h
 
 -- ── the whole list ──
 
@@ -146,7 +146,7 @@ all v few (o ∷ os) i k a ms ts ks qs h =
     let r = step_of step v k o.event o.answers in
     rw (← append_assoc, ← append_assoc, ← append_assoc, ← append_assoc)
     (all v few os (suc i) r.kept (book v i (past_of o.event k.site o.answers r) a) _ _ _ _
-    (offered-so v few i o.event o.answers k a ms ts ks qs h))
+    (offered_so v few i o.event o.answers k a ms ts ks qs h))
 
 begins : (k : Kept) → Begins k → Inv [] [] [] [] k blank
 unfolding seen fresh_session count sum_for handed tried beside
@@ -162,28 +162,28 @@ begins k b =
     }
 
 -- from every session without marks, last moves, line, sums and open drivers
-pub demand-3-from : (k : Kept) → Begins k → ClaimFrom k step
-demand-3-from k b v few os =
+pub demand_3_from : (k : Kept) → Begins k → ClaimFrom k step
+demand_3_from k b v few os =
     let ps = pasts step v k os in
     let h : Inv (moves v 0 ps) (turns v ps) (ticks ps) (moved ps) (final step v k os) (account v 0 ps blank) = all v few os 0 k blank [] [] [] [] (begins k b) in
     record {
       line = ap (λ d. d.line) h.desk;
       sums = λ d. ap (λ (x : _). sum_for d x.turns) h.desk;
       fate = h.fate;
-      once = λ i. moves-once v 0 i ps;
+      once = λ i. moves_once v 0 i ps;
       drains = h.drains;
       quiet = h.quiet;
       turned = h.turned;
     }
 
-pub fresh-begins : Begins fresh
+pub fresh_begins : Begins fresh
 unfolding seen fresh_session beside
-fresh-begins = record { desk = refl; opened = refl; bank = omega arith; lives = refl }
+fresh_begins = record { desk = refl; opened = refl; bank = omega arith; lives = refl }
 
-pub demand-3 : Demand3
-demand-3 = demand-3-from fresh fresh-begins
+pub demand_3 : Demand3
+demand_3 = demand_3_from fresh fresh_begins
 
 -- of a profile that is accepted: it has at most 16 banks
-pub demand-3-of : (s : List ℕ) → verdict s ≡ 0 → (os : List Offer) →
+pub demand_3_of : (s : List ℕ) → verdict s ≡ 0 → (os : List Offer) →
     Holds (view_of s) (pasts step (view_of s) fresh os) (final step (view_of s) fresh os) (account (view_of s) 0 (pasts step (view_of s) fresh os) blank)
-demand-3-of s good os = demand-3 (view_of s) (few-banks s good) os
+demand_3_of s good os = demand_3 (view_of s) (few_banks s good) os

@@ -20,7 +20,7 @@ standing (x ∷ l) = pick (opens_now x) (standing l) (x ∷ standing l)
 
 pub data Stands : Asked → Tried → Type 0 where
   a_write : {t : Tried} {r : Reply} → Stands (saying (writing t.dest t.level) r) t
-  a-refused-open : {t : Tried} → Stands (saying (open_of (writing t.dest t.level)) no_reply) t
+  a_refused_open : {t : Tried} → Stands (saying (open_of (writing t.dest t.level)) no_reply) t
 
 standing-append : (l m : List Asked) → standing (l ++ m) ≡ standing l ++ standing m
 unfolding standing
@@ -41,11 +41,11 @@ stood : (t : Tried) {o : List Bool} {r : Reply} {l : List Asked} → Uses o (wri
 unfolding standing plain_call write_call
 stood t (used e) = record { one = _; is = refl; for = a_write }
 stood t (opened-used e) = record { one = _; is = refl; for = a_write }
-stood t (not-used e) = record { one = _; is = refl; for = a-refused-open }
+stood t (not-used e) = record { one = _; is = refl; for = a_refused_open }
 
-pub one-for-one : {o : List Bool} {ts : List Tried} {l : List Asked} → Tries o ts l → Each Stands (standing l) ts
+pub one_for_one : {o : List Bool} {ts : List Tried} {l : List Asked} → Tries o ts l → Each Stands (standing l) ts
 unfolding standing
-one-for-one tried-all = no_more
-one-for-one (tried-one {t = t} {m = m} {l = l} u r) =
+one_for_one tried-all = no_more
+one_for_one (tried-one {t = t} {m = m} {l = l} u r) =
     let s = stood t u in
-    rw (standing-append m l, s.is) (one_more s.for (one-for-one r))
+    rw (standing-append m l, s.is) (one_more s.for (one_for_one r))

@@ -515,7 +515,7 @@ read_as d r = normal d (level_of r.answer)
 -- "non-zero encoder sums in first-turned order, one read and, if readable, one write of current + sum/64 held in 0 to 1"
 pub data Nudges : List Bool → List Turn → List Asked → Type 0 where
   nudged-all : {o : List Bool} → Nudges o [] []
-  zero-sum : {o : List Bool} {e : Turn} {es : List Turn} {l : List Asked} →
+  zero_sum : {o : List Bool} {e : Turn} {es : List Turn} {l : List Asked} →
       is_zero e.sum ≡ true → Nudges o es l → Nudges o (e ∷ es) l
   not-read : {o : List Bool} {e : Turn} {es : List Turn} {r : Reply} {m l : List Asked} →
       is_zero e.sum ≡ false → Uses o (reading_of e.dest) r m → read_as e.dest r ≡ Unknown → Nudges (opens m o) es l →

@@ -11,7 +11,7 @@ use borrow.Author.Tests.{le-leb}
 use Rattle.base.specs.Choice.{pick}
 use Rattle.base.specs.Keyed.{all_of, beside}
 use Rattle.base.specs.KeyedLaws.{map-set, every-none}
-use Rattle.base.specs.Pigeon.{left-of, right_of}
+use Rattle.base.specs.Pigeon.{left_of_lem, right_of}
 use Rattle.session.specs.Session.{is_encoder, seen_line, seen_turns, seen_silenced, seen_strips, strips_or, strips_for}
 use Rattle.session.specs.declared.Session.{Session}
 use Rattle.session.specs.declared.Marks.{Marks}
@@ -34,12 +34,12 @@ use Rattle.after.specs.declared.Setting.{Setting}
 -- ── a move ──
 
 -- marks, moves and line each by the verdict are the desk by it
-desk-by : (v : Verdict) (k ch : ℕ) (value : Float) (d : Desk) →
+desk_by : (v : Verdict) (k ch : ℕ) (value : Float) (d : Desk) →
     desk (marks_by v k d.marks) (moves_by v k value d.moves) (line_by v ch value d.line) d.turns ≡ left_by v k ch value d
 unfolding hold_move take_move
-desk-by Ignored k ch value d = refl
-desk-by Held k ch value d = refl
-desk-by Taken k ch value d = refl
+desk_by Ignored k ch value d = refl
+desk_by Held k ch value d = refl
+desk_by Taken k ch value d = refl
 
 -- the session with what a move leaves
 module _ (s : Session) (opened : List Bool) (moves : Moves) (marks : Marks) (line : Line) where
@@ -66,10 +66,10 @@ module _ (s : Session) (opened : List Bool) (moves : Moves) (marks : Marks) (lin
       rw (a, b, e)
       (ap
       (λ d. kept (site s.bank s.livedue s.liveat (map seen_strips s.live.banks)) d s.lamps (seen_silenced s.silenced) opened)
-      (desk-by v k ch value (desk s.marks s.moves (seen_line s.line) (seen_turns p s.turns))))
+      (desk_by v k ch value (desk s.marks s.moves (seen_line s.line) (seen_turns p s.turns))))
 
-  pub fades-within : line.count ≤ 16 → KeepsPlaces s moved
-  fades-within h p q =
+  pub fades_within : line.count ≤ 16 → KeepsPlaces s moved
+  fades_within h p q =
       record { line = h; turns = q.turns; encoders = q.encoders; silenced = q.silenced; live = q.live }
 
 -- ── a live list that takes a bank's place ──
@@ -78,15 +78,15 @@ all_set : {A : Type 0} (f : A → Bool) (l : List A) (i : ℕ) (x : A) → f x �
 unfolding all_of
 all_set f [] i x h e = refl
 all_set f (y ∷ l) zero x h e = rw h (right_of (f y) (all_of f l) e)
-all_set f (y ∷ l) (suc i) x h e = rw (left-of (f y) (all_of f l) e) (all_set f l i x h (right_of (f y) (all_of f l) e))
+all_set f (y ∷ l) (suc i) x h e = rw (left_of_lem (f y) (all_of f l) e) (all_set f l i x h (right_of (f y) (all_of f l) e))
 
 -- a list that is known is seen
 seen-known : (s : Strips) → s.known ≡ true → seen_strips s ≡ some (strips_or (seen_strips s))
 unfolding seen_strips
 seen-known s e = rw e
 
-few-known : (s : Strips) → s.known ≡ true → s.count ≤ 8 → few_strips s ≡ true
-few-known s e h = rw (e, le-leb s.count 8 h)
+few_known : (s : Strips) → s.known ≡ true → s.count ≤ 8 → few_strips s ≡ true
+few_known s e h = rw (e, le-leb s.count 8 h)
 
 -- the bank's list becomes this one, which is known and within its places
 module _ (live r : Live) (here : Current) (known : here.strips.known ≡ true) (few : here.strips.count ≤ 8)
@@ -95,9 +95,9 @@ module _ (live r : Live) (here : Current) (known : here.strips.known ≡ true) (
   unfolding strips_for
   renewed = rw (e, map-set seen_strips live.banks here.bank here.strips, ← seen-known here.strips known)
 
-  pub renewed-few : FewAfter live r
+  pub renewed_few : FewAfter live r
   unfolding strips_for
-  renewed-few h = rw e (all_set few_strips live.banks here.bank here.strips (few-known here.strips known few) h)
+  renewed_few h = rw e (all_set few_strips live.banks here.bank here.strips (few_known here.strips known few) h)
 
 -- ── any other event ──
 
@@ -137,10 +137,10 @@ module _ (p : List ℕ) (t r : Turns) where
   sums-within true e h = omega arith
   sums-within false e h = rw e h
 
-  sums-encoders : (ticks : Bool) → TurnsAfter ticks t r → all_of (is_encoder p) (take t.count t.records) ≡ true →
+  sums_encoders : (ticks : Bool) → TurnsAfter ticks t r → all_of (is_encoder p) (take t.count t.records) ≡ true →
       all_of (is_encoder p) (take r.count r.records) ≡ true
-  sums-encoders true e h = rw e (every-none (is_encoder p) 0 r.records)
-  sums-encoders false e h = rw e h
+  sums_encoders true e h = rw e (every-none (is_encoder p) 0 r.records)
+  sums_encoders false e h = rw e h
 
 -- the session with what any other event leaves
 module _ (s : Session) (at : Setting) (x : Left) (silenced : Silenced) (opened : List Bool) (liveat : Float) (live : Live) (marks : Marks) (line : Line)
@@ -178,13 +178,13 @@ module _ (s : Session) (at : Setting) (x : Left) (silenced : Silenced) (opened :
         desk-after x.moved x.changed at.ticks s.bank (desk s.marks s.moves (seen_line s.line) (seen_turns p s.turns)),
       )
 
-  pub lasts-within : silenced.count ≤ 256 → line.count ≤ 16 → FewAfter s.live live → TurnsAfter at.ticks s.turns turns →
+  pub lasts_within : silenced.count ≤ 256 → line.count ≤ 16 → FewAfter s.live live → TurnsAfter at.ticks s.turns turns →
       KeepsPlaces s lasting
-  lasts-within h l f t p q =
+  lasts_within h l f t p q =
       record {
         line = l;
         turns = sums-within p s.turns turns at.ticks t q.turns;
-        encoders = sums-encoders p s.turns turns at.ticks t q.encoders;
+        encoders = sums_encoders p s.turns turns at.ticks t q.encoders;
         silenced = h;
         live = f q.live;
       }

@@ -19,9 +19,9 @@ use Rattle.banks.specs.Steps.{ShowsBank, selecting, Selects, Steps}
 
 -- ── the next bank ──
 
-left-of : (bank : ℕ) → (bank ≡ 0 → ⊥) → bank - 1 ≡ step_left bank
-left-of zero n = omega arith
-left-of (suc b) n = omega arith
+left_of_lem : (bank : ℕ) → (bank ≡ 0 → ⊥) → bank - 1 ≡ step_left bank
+left_of_lem zero n = omega arith
+left_of_lem (suc b) n = omega arith
 
 module _ (right : Bool) (banks bank : ℕ) where
   pub left_end : not right ≡ true → bank ≡ 0 → 0 ≡ next_bank right banks bank
@@ -30,7 +30,7 @@ module _ (right : Bool) (banks bank : ℕ) where
 
   pub one_left : not right ≡ true → (bank ≡ 0 → ⊥) → bank - 1 ≡ next_bank right banks bank
   unfolding next_bank
-  one_left e n = rw (not-true right e) (left-of bank n)
+  one_left e n = rw (not-true right e) (left_of_lem bank n)
 
   pub one_right : not right ≡ false → ltb (bank + 1) banks ≡ true → bank + 1 ≡ next_bank right banks bank
   unfolding next_bank
@@ -43,9 +43,9 @@ module _ (right : Bool) (banks bank : ℕ) where
 -- ── selecting it: home is the last move of the flash's row there ──
 
 module _ (r : Rig) (l : Lamps) (s : List ℕ) (home : Level) (now : Float) (t : Talk) where
-  pub shows-bank : (x : Got Lamps) → Shows r l s home now r.here.bank 0 t x → ShowsBank r l s home now t x
+  pub shows_bank : (x : Got Lamps) → Shows r l s home now r.here.bank 0 t x → ShowsBank r l s home now t x
   unfolding flash_bank
-  shows-bank x f m h = f m h
+  shows_bank x f m h = f m h
 
   -- u is the line after the lamps, v and k what the bank's number leaves
   pub selects : (u v : Talk) (k : Lamps) → u ≡ push_state r l s t → ShowsBank r l s home now u (got k v) →

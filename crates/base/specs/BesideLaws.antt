@@ -60,13 +60,13 @@ module _ {A B C : Type 0} (f : A → B → C) where
   beside-any g h r (x ∷ xs) [] e = absurd (omega arith)
   beside-any g h r (x ∷ xs) (y ∷ ys) e = rw (r x y, beside-any g h r xs ys (omega arith))
 
-  pub beside-once : (g : C → C → Bool) (h : A → A → Bool) → ((x z : A) (y w : B) → g (f x y) (f z w) ≡ h x z) →
+  pub beside_once : (g : C → C → Bool) (h : A → A → Bool) → ((x z : A) (y w : B) → g (f x y) (f z w) ≡ h x z) →
       (xs : List A) (ys : List B) → length xs ≡ length ys → no_twice g (beside f xs ys) ≡ no_twice h xs
   unfolding beside no_twice
-  beside-once g h r [] ys e = refl
-  beside-once g h r (x ∷ xs) [] e = absurd (omega arith)
-  beside-once g h r (x ∷ xs) (y ∷ ys) e =
-      rw (beside-any (g (f x y)) (h x) (λ z w. r x z y w) xs ys (omega arith), beside-once g h r xs ys (omega arith))
+  beside_once g h r [] ys e = refl
+  beside_once g h r (x ∷ xs) [] e = absurd (omega arith)
+  beside_once g h r (x ∷ xs) (y ∷ ys) e =
+      rw (beside-any (g (f x y)) (h x) (λ z w. r x z y w) xs ys (omega arith), beside_once g h r xs ys (omega arith))
 
   -- a test that looks at the second list alone
   pub beside-all : (g : C → Bool) (h : B → Bool) → ((x : A) (y : B) → g (f x y) ≡ h y) → (xs : List A) (ys : List B) → length xs ≡ length ys →

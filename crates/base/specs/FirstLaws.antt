@@ -40,22 +40,22 @@ module _ (p : ℕ → Bool) where
   found_here n k true q f = let m : n ≡ k = cc in (omega arith, rw m at q)
   found_here n k false q f = let z : ◌≡◌ {A = Bool} true false = cc in absurd (true≢false z)
 
-  found-step : (n k : ℕ) (f : Place) → (f ≡ At k → (k < n) × (p k ≡ true)) → or_else f (cond (p n) (At n) Nothing) ≡ At k → (k < suc n) × (p k ≡ true)
-  found-step n k (At j) ih g = let w = ih g in (omega arith, w.1)
-  found-step n k Nothing ih g = found_here n k (p n) refl g
+  found_step : (n k : ℕ) (f : Place) → (f ≡ At k → (k < n) × (p k ≡ true)) → or_else f (cond (p n) (At n) Nothing) ≡ At k → (k < suc n) × (p k ≡ true)
+  found_step n k (At j) ih g = let w = ih g in (omega arith, w.1)
+  found_step n k Nothing ih g = found_here n k (p n) refl g
 
   -- what is found is below n, and p holds of it
   pub first-at : (n k : ℕ) → first n p ≡ At k → (k < n) × (p k ≡ true)
   unfolding first
   first-at zero k e = let z : ◌≡◌ {A = Bool} true false = cc in absurd (true≢false z)
-  first-at (suc n) k e = found-step n k (first n p) (first-at n k) e
+  first-at (suc n) k e = found_step n k (first n p) (first-at n k) e
 
   -- where nothing is found, p holds of none
-  pub first-misses : (n k : ℕ) → first n p ≡ Nothing → k < n → p k ≡ false
+  pub first_misses : (n k : ℕ) → first n p ≡ Nothing → k < n → p k ≡ false
   unfolding first
-  first-misses zero k h l = absurd (not-suc-le-zero l)
-  first-misses (suc n) k h l =
-      ⊎_elim (λ e. rw e (last (first n p) (p n) h)) (λ m. first-misses n k (early (first n p) (p n) h) m) (eq-or-lt_of_le (le_of_suc-le-suc l))
+  first_misses zero k h l = absurd (not-suc-le-zero l)
+  first_misses (suc n) k h l =
+      ⊎_elim (λ e. rw e (last (first n p) (p n) h)) (λ m. first_misses n k (early (first n p) (p n) h) m) (eq-or-lt_of_le (le_of_suc-le-suc l))
     where
       last : (f : Place) (b : Bool) → or_else f (cond b (At n) Nothing) ≡ Nothing → b ≡ false
       last (At j) b q = let z : ◌≡◌ {A = Bool} true false = cc in absurd (true≢false z)
@@ -76,9 +76,9 @@ module _ (p : ℕ → Bool) where
       go Nothing e = omega arith
 
   -- a loop that has found none below i stands at the first
-  pub until-here : (n i : ℕ) → first i p ≡ Nothing → p i ≡ true → i < n → until n p ≡ i
+  pub until_here : (n i : ℕ) → first i p ≡ Nothing → p i ≡ true → i < n → until n p ≡ i
   unfolding until
-  until-here n i h q l = rw (← first-hit n i h q l)
+  until_here n i h q l = rw (← first-hit n i h q l)
 
   -- or at the end
   pub until-done : (i n : ℕ) → i ≤ n → n ≤ i → first i p ≡ Nothing → until n p ≡ i
@@ -99,5 +99,5 @@ module _ (p : ℕ → Bool) where
       go Nothing e = l
 
   -- as a loop knows it
-  pub until-on : (n i : ℕ) → i < n → first i p ≡ Nothing → p i ≡ false → i < until n p
-  until-on n i l h q = until-behind n i l (λ k m. ⊎_elim (λ e. rw e q) (first-misses i k h) (eq-or-lt_of_le m))
+  pub until_on : (n i : ℕ) → i < n → first i p ≡ Nothing → p i ≡ false → i < until n p
+  until_on n i l h q = until-behind n i l (λ k m. ⊎_elim (λ e. rw e q) (first_misses i k h) (eq-or-lt_of_le m))

@@ -10,7 +10,7 @@ use native.Mathlib.Omega.{arith}
 use Rattle.std.proofs.Math.ListN.{length, set}
 use Rattle.std.proofs.lemmas.List.{length-map}
 use Rattle.std.proofs.Math.Seq.{take-set-lt}
-use Rattle.base.specs.Pigeon.{all_append, once-append}
+use Rattle.base.specs.Pigeon.{all_append, once_append}
 use Rattle.base.specs.Choice.{pick}
 use Rattle.base.specs.Keyed.{at, find, any_of, all_of, change, keep, no_twice}
 
@@ -83,29 +83,29 @@ module _ {A : Type 0} (f : A → Bool) (d : A) where
       go true k ih = refl
       go false k ih = ih (omega arith)
 
-  pub find-no : (xs : List A) → length xs ≤ at f xs → find f xs ≡ none
+  pub find_no : (xs : List A) → length xs ≤ at f xs → find f xs ≡ none
   unfolding at find
-  find-no [] h = refl
-  find-no (x ∷ xs) h = go (f x) h (find-no xs)
+  find_no [] h = refl
+  find_no (x ∷ xs) h = go (f x) h (find_no xs)
     where
       go : (b : Bool) → suc (length xs) ≤ pick b 0 (suc (at f xs)) → (length xs ≤ at f xs → find f xs ≡ none) →
           pick b (some x) (find f xs) ≡ none
       go true k ih = absurd (omega arith)
       go false k ih = ih (omega arith)
 
-  pub any-yes : (xs : List A) → at f xs < length xs → any_of f xs ≡ true
+  pub any_yes : (xs : List A) → at f xs < length xs → any_of f xs ≡ true
   unfolding at any_of
-  any-yes [] h = absurd (omega arith)
-  any-yes (x ∷ xs) h = go (f x) h (any-yes xs)
+  any_yes [] h = absurd (omega arith)
+  any_yes (x ∷ xs) h = go (f x) h (any_yes xs)
     where
       go : (b : Bool) → pick b 0 (suc (at f xs)) < suc (length xs) → (at f xs < length xs → any_of f xs ≡ true) → pick b true (any_of f xs) ≡ true
       go true k ih = refl
       go false k ih = ih (omega arith)
 
-  pub any-no : (xs : List A) → length xs ≤ at f xs → any_of f xs ≡ false
+  pub any_no : (xs : List A) → length xs ≤ at f xs → any_of f xs ≡ false
   unfolding at any_of
-  any-no [] h = refl
-  any-no (x ∷ xs) h = go (f x) h (any-no xs)
+  any_no [] h = refl
+  any_no (x ∷ xs) h = go (f x) h (any_no xs)
     where
       go : (b : Bool) → suc (length xs) ≤ pick b 0 (suc (at f xs)) → (length xs ≤ at f xs → any_of f xs ≡ false) → pick b true (any_of f xs) ≡ false
       go true k ih = absurd (omega arith)
@@ -134,42 +134,42 @@ module _ {A : Type 0} (f : A → Bool) (d : A) where
 
   -- ── the same of an array's first n, as the code leaves it. i is what the search gave ──
   module _ (xs : List A) (n i : ℕ) (e : i ≡ at f (take n xs)) where
-    seen-long : n ≤ length xs → length (take n xs) ≡ n
-    seen-long l = length-take-le n xs l
+    seen_long : n ≤ length xs → length (take n xs) ≡ n
+    seen_long l = length-take-le n xs l
 
-    pub found-le : n ≤ length xs → i ≤ n
-    found-le l = omega (arith, seen-long l, at-le (take n xs))
+    pub found_le : n ≤ length xs → i ≤ n
+    found_le l = omega (arith, seen_long l, at-le (take n xs))
 
     pub found : n ≤ length xs → i < n → find f (take n xs) ≡ some (get_or xs i d)
-    found l h = find_at (take n xs) (omega (arith, seen-long l)) ∙ rw (← e, get_or-take)
+    found l h = find_at (take n xs) (omega (arith, seen_long l)) ∙ rw (← e, get_or-take)
 
     pub not_found : n ≤ length xs → n ≤ i → find f (take n xs) ≡ none
-    not_found l h = find-no (take n xs) (omega (arith, seen-long l))
+    not_found l h = find_no (take n xs) (omega (arith, seen_long l))
 
-    pub is-there : n ≤ length xs → i < n → any_of f (take n xs) ≡ true
-    is-there l h = any-yes (take n xs) (omega (arith, seen-long l))
+    pub is_there : n ≤ length xs → i < n → any_of f (take n xs) ≡ true
+    is_there l h = any_yes (take n xs) (omega (arith, seen_long l))
 
     pub not_there : n ≤ length xs → n ≤ i → any_of f (take n xs) ≡ false
-    not_there l h = any-no (take n xs) (omega (arith, seen-long l))
+    not_there l h = any_no (take n xs) (omega (arith, seen_long l))
 
     pub is_any : n ≤ length xs → any_of f (take n xs) ≡ ltb i n
     is_any l = go (ltb i n) refl
       where
         go : (b : Bool) → ltb i n ≡ b → any_of f (take n xs) ≡ ltb i n
-        go true h = is-there l (ltb-true i n h) ∙ sym h
+        go true h = is_there l (ltb-true i n h) ∙ sym h
         go false h = not_there l (ltb-false i n h) ∙ sym h
 
-    pub change-in : (g : A → A) (y : A) → n ≤ length xs → i < n → take n (set xs i (g (get_or xs i d))) ≡ change f g y (take n xs)
-    change-in g y l h =
-        sym (change-at g y (take n xs) (omega (arith, seen-long l)) ∙ rw (← e, get_or-take) (sym (take-set-lt n xs i (g (get_or xs i d)) h)))
+    pub change_in : (g : A → A) (y : A) → n ≤ length xs → i < n → take n (set xs i (g (get_or xs i d))) ≡ change f g y (take n xs)
+    change_in g y l h =
+        sym (change-at g y (take n xs) (omega (arith, seen_long l)) ∙ rw (← e, get_or-take) (sym (take-set-lt n xs i (g (get_or xs i d)) h)))
 
-    pub change-out : (g : A → A) (y : A) → n < length xs → n ≤ i → take (n + 1) (set xs n y) ≡ change f g y (take n xs)
-    change-out g y l h =
-        rw (add-one, take-suc-set) (sym (change-end g y (take n xs) (omega (arith, seen-long (omega arith)))))
+    pub change_out : (g : A → A) (y : A) → n < length xs → n ≤ i → take (n + 1) (set xs n y) ≡ change f g y (take n xs)
+    change_out g y l h =
+        rw (add-one, take-suc-set) (sym (change-end g y (take n xs) (omega (arith, seen_long (omega arith)))))
 
     -- a list that lacks what is looked for and is not full has room
     pub room : (top : ℕ) → n ≤ length xs → n ≤ i → pick (any_of f (take n xs)) false (leb top (length (take n xs))) ≡ false → n < top
-    room top l h e = leb-false top n (rw (not_there l h, seen-long l) at e)
+    room top l h e = leb-false top n (rw (not_there l h, seen_long l) at e)
 
   -- ── keeping, counting up ──
   pub keep-more : (xs : List A) (i : ℕ) → i < length xs →
@@ -198,27 +198,27 @@ module _ {A : Type 0} (f : A → Bool) (d : A) where
 
   -- ── keeping, as the code does it: k written to ts so far, of the first j of xs ──
   module _ (ts xs : List A) (k j : ℕ) (e : take k ts ≡ keep f (take j xs)) where
-    pub keep-yes : k < length ts → j < length xs → f (get_or xs j d) ≡ true → take (k + 1) (set ts k (get_or xs j d)) ≡ keep f (take (j + 1) xs)
-    keep-yes l h g = rw (add-one, add-one, take-suc-set, keep-more xs j h, g, e)
+    pub keep_yes : k < length ts → j < length xs → f (get_or xs j d) ≡ true → take (k + 1) (set ts k (get_or xs j d)) ≡ keep f (take (j + 1) xs)
+    keep_yes l h g = rw (add-one, add-one, take-suc-set, keep-more xs j h, g, e)
 
-    pub keep-no : j < length xs → f (get_or xs j d) ≡ false → take k ts ≡ keep f (take (j + 1) xs)
-    keep-no h g = rw (add-one, keep-more xs j h, g, append-nil) e
+    pub keep_no : j < length xs → f (get_or xs j d) ≡ false → take k ts ≡ keep f (take (j + 1) xs)
+    keep_no h g = rw (add-one, keep-more xs j h, g, append-nil) e
 
 -- ── a change leaves a list as long, or one longer ──
 module _ {A : Type 0} (f : A → Bool) (g : A → A) (y : A) where
-  pub change-longer : (xs : List A) → length xs ≤ length (change f g y xs)
+  pub change_longer : (xs : List A) → length xs ≤ length (change f g y xs)
   unfolding change
-  change-longer [] = omega arith
-  change-longer (x ∷ xs) = go (f x) (change-longer xs)
+  change_longer [] = omega arith
+  change_longer (x ∷ xs) = go (f x) (change_longer xs)
     where
       go : (b : Bool) → length xs ≤ length (change f g y xs) → suc (length xs) ≤ length (pick b (g x ∷ xs) (x ∷ change f g y xs))
       go true k = omega arith
       go false k = omega arith
 
-  pub change-long : (xs : List A) → length (change f g y xs) ≤ suc (length xs)
+  pub change_long : (xs : List A) → length (change f g y xs) ≤ suc (length xs)
   unfolding change
-  change-long [] = omega arith
-  change-long (x ∷ xs) = go (f x) (change-long xs)
+  change_long [] = omega arith
+  change_long (x ∷ xs) = go (f x) (change_long xs)
     where
       go : (b : Bool) → length (change f g y xs) ≤ suc (length xs) → length (pick b (g x ∷ xs) (x ∷ change f g y xs)) ≤ suc (suc (length xs))
       go true k = omega arith
@@ -235,12 +235,12 @@ module _ {A : Type 0} (f : A → Bool) (d : A) where
   unfolding all_of
   every_more xs i h e g = rw (take-suc xs i d h) (all_append f (take i xs) (get_or xs i d ∷ []) e (rw g))
 
-  pub every-stop : (xs : List A) (i n : ℕ) → i < n → n ≤ length xs → f (get_or xs i d) ≡ false → all_of f (take n xs) ≡ false
+  pub every_stop : (xs : List A) (i n : ℕ) → i < n → n ≤ length xs → f (get_or xs i d) ≡ false → all_of f (take n xs) ≡ false
   unfolding all_of
-  every-stop [] i n h l g = absurd (omega arith)
-  every-stop (x ∷ xs) i zero h l g = absurd (omega arith)
-  every-stop (x ∷ xs) zero (suc n) h l g = rw g
-  every-stop (x ∷ xs) (suc i) (suc n) h l g = go (f x) (every-stop xs i n (omega arith) (omega arith) g)
+  every_stop [] i n h l g = absurd (omega arith)
+  every_stop (x ∷ xs) i zero h l g = absurd (omega arith)
+  every_stop (x ∷ xs) zero (suc n) h l g = rw g
+  every_stop (x ∷ xs) (suc i) (suc n) h l g = go (f x) (every_stop xs i n (omega arith) (omega arith) g)
     where
       go : (b : Bool) → all_of f (take n xs) ≡ false → pick b (all_of f (take n xs)) false ≡ false
       go true k = k
@@ -252,38 +252,38 @@ module _ {A : Type 0} (f : A → Bool) (d : A) where
     where
       go : (b : Bool) → f (get_or xs i d) ≡ b → b ≡ true
       go true q = refl
-      go false q = absurd (true≢false (sym e ∙ every-stop xs i n h l q))
+      go false q = absurd (true≢false (sym e ∙ every_stop xs i n h l q))
 
 module _ {A : Type 0} (same : A → A → Bool) (d : A) where
   -- the i-th against those before it
   abbrev again : List A → ℕ → A → Bool
   again xs i y = same y (get_or xs i d)
 
-  pub once-none : (xs : List A) → no_twice same (take 0 xs) ≡ true
+  pub once_none : (xs : List A) → no_twice same (take 0 xs) ≡ true
   unfolding no_twice
-  once-none [] = refl
-  once-none (x ∷ xs) = refl
+  once_none [] = refl
+  once_none (x ∷ xs) = refl
 
   pub once_more : (xs : List A) (i : ℕ) → i < length xs → no_twice same (take i xs) ≡ true → any_of (again xs i) (take i xs) ≡ false → no_twice same (take (suc i) xs) ≡ true
-  once_more xs i h e g = rw (take-suc xs i d h) (once-append same (take i xs) (get_or xs i d) e g)
+  once_more xs i h e g = rw (take-suc xs i d h) (once_append same (take i xs) (get_or xs i d) e g)
 
-  any-in : (f : A → Bool) (xs : List A) (i n : ℕ) → i < n → n ≤ length xs → f (get_or xs i d) ≡ true → any_of f (take n xs) ≡ true
+  any_in : (f : A → Bool) (xs : List A) (i n : ℕ) → i < n → n ≤ length xs → f (get_or xs i d) ≡ true → any_of f (take n xs) ≡ true
   unfolding any_of
-  any-in f [] i n h l g = absurd (omega arith)
-  any-in f (x ∷ xs) i zero h l g = absurd (omega arith)
-  any-in f (x ∷ xs) zero (suc n) h l g = rw g
-  any-in f (x ∷ xs) (suc i) (suc n) h l g = go (f x) (any-in f xs i n (omega arith) (omega arith) g)
+  any_in f [] i n h l g = absurd (omega arith)
+  any_in f (x ∷ xs) i zero h l g = absurd (omega arith)
+  any_in f (x ∷ xs) zero (suc n) h l g = rw g
+  any_in f (x ∷ xs) (suc i) (suc n) h l g = go (f x) (any_in f xs i n (omega arith) (omega arith) g)
     where
       go : (b : Bool) → any_of f (take n xs) ≡ true → pick b true (any_of f (take n xs)) ≡ true
       go true k = refl
       go false k = k
 
-  pub once-stop : (xs : List A) (i n : ℕ) → i < n → n ≤ length xs → any_of (again xs i) (take i xs) ≡ true → no_twice same (take n xs) ≡ false
+  pub once_stop : (xs : List A) (i n : ℕ) → i < n → n ≤ length xs → any_of (again xs i) (take i xs) ≡ true → no_twice same (take n xs) ≡ false
   unfolding no_twice any_of
-  once-stop [] i n h l g = absurd (omega arith)
-  once-stop (x ∷ xs) i zero h l g = absurd (omega arith)
-  once-stop (x ∷ xs) zero (suc n) h l g = absurd (true≢false (sym g))
-  once-stop (x ∷ xs) (suc i) (suc n) h l g = go (same x (get_or xs i d)) refl g (λ k. once-stop xs i n (omega arith) (omega arith) k)
+  once_stop [] i n h l g = absurd (omega arith)
+  once_stop (x ∷ xs) i zero h l g = absurd (omega arith)
+  once_stop (x ∷ xs) zero (suc n) h l g = absurd (true≢false (sym g))
+  once_stop (x ∷ xs) (suc i) (suc n) h l g = go (same x (get_or xs i d)) refl g (λ k. once_stop xs i n (omega arith) (omega arith) k)
     where
       end : (b : Bool) → no_twice same (take n xs) ≡ false → pick b false (no_twice same (take n xs)) ≡ false
       end true k = refl
@@ -291,5 +291,5 @@ module _ {A : Type 0} (same : A → A → Bool) (d : A) where
 
       go : (b : Bool) → same x (get_or xs i d) ≡ b → pick b true (any_of (again xs i) (take i xs)) ≡ true →
           (any_of (again xs i) (take i xs) ≡ true → no_twice same (take n xs) ≡ false) → pick (any_of (same x) (take n xs)) false (no_twice same (take n xs)) ≡ false
-      go true q k ih = rw (any-in (same x) xs i n (omega arith) (omega arith) q)
+      go true q k ih = rw (any_in (same x) xs i n (omega arith) (omega arith) q)
       go false q k ih = end (any_of (same x) (take n xs)) (ih k)

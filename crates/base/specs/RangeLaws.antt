@@ -23,13 +23,13 @@ or_cases true b e = inl refl
 or_cases false b e = inr e
 
 -- the two halves of an or that is false
-pub or-left-no : (a b : Bool) → (a || b) ≡ false → a ≡ false
-or-left-no true b e = e
-or-left-no false b e = refl
+pub or_left_no : (a b : Bool) → (a || b) ≡ false → a ≡ false
+or_left_no true b e = e
+or_left_no false b e = refl
 
-pub or-right-no : (a b : Bool) → (a || b) ≡ false → b ≡ false
-or-right-no true b e = absurd (false≢true (sym e))
-or-right-no false b e = e
+pub or_right_no : (a b : Bool) → (a || b) ≡ false → b ≡ false
+or_right_no true b e = absurd (false≢true (sym e))
+or_right_no false b e = e
 
 pub bit_le : (b : Bool) → bit b ≤ 1
 bit_le true = omega arith
@@ -57,20 +57,20 @@ module _ (p : ℕ → Bool) where
       ⊎_elim (λ e. rw e (and_right (all n p) (p n) h)) (λ lt. all-at n k (and_left (all n p) (p n) h) lt) (eq-or-lt_of_le (le_of_suc-le-suc l))
 
   -- and what is true of each is true of all
-  pub all-each : (n : ℕ) → ((k : ℕ) → k < n → p k ≡ true) → all n p ≡ true
+  pub all_each : (n : ℕ) → ((k : ℕ) → k < n → p k ≡ true) → all n p ≡ true
   unfolding all
-  all-each zero h = refl
-  all-each (suc n) h = rw (all-each n (λ k l. h k (omega arith)), h n (omega arith))
+  all_each zero h = refl
+  all_each (suc n) h = rw (all_each n (λ k l. h k (omega arith)), h n (omega arith))
 
   -- one that fails
-  all-fails : (n k : ℕ) → k < n → p k ≡ false → all n p ≡ false
+  all_fails : (n k : ℕ) → k < n → p k ≡ false → all n p ≡ false
   unfolding all
-  all-fails zero k l q = absurd (not-suc-le-zero l)
-  all-fails (suc n) k l q =
-      ⊎_elim (λ e. ap (λ (b : Bool). all n p && b) (rw e at q) ∙ and-false (all n p)) (λ lt. rw (all-fails n k lt q)) (eq-or-lt_of_le (le_of_suc-le-suc l))
+  all_fails zero k l q = absurd (not-suc-le-zero l)
+  all_fails (suc n) k l q =
+      ⊎_elim (λ e. ap (λ (b : Bool). all n p && b) (rw e at q) ∙ and-false (all n p)) (λ lt. rw (all_fails n k lt q)) (eq-or-lt_of_le (le_of_suc-le-suc l))
 
-  pub all-stop : (n k : ℕ) → k < n → p k ≡ false → false ≡ all n p
-  all-stop n k l q = sym (all-fails n k l q)
+  pub all_stop : (n k : ℕ) → k < n → p k ≡ false → false ≡ all n p
+  all_stop n k l q = sym (all_fails n k l q)
 
   -- what the loop carries of a count, at the next turn
   pub count_none : count 0 p ≡ 0
@@ -108,20 +108,20 @@ and_intro a b p q = rw (p, q)
 
 -- questions that agree below n have one answer
 module _ (p q : ℕ → Bool) where
-  pub all-cong : (n : ℕ) → ((k : ℕ) → k < n → p k ≡ q k) → all n p ≡ all n q
+  pub all_cong : (n : ℕ) → ((k : ℕ) → k < n → p k ≡ q k) → all n p ≡ all n q
   unfolding all
-  all-cong zero h = refl
-  all-cong (suc n) h = rw (all-cong n (λ k l. h k (omega arith)), h n (omega arith))
+  all_cong zero h = refl
+  all_cong (suc n) h = rw (all_cong n (λ k l. h k (omega arith)), h n (omega arith))
 
-  pub any-cong : (n : ℕ) → ((k : ℕ) → k < n → p k ≡ q k) → any n p ≡ any n q
+  pub any_cong : (n : ℕ) → ((k : ℕ) → k < n → p k ≡ q k) → any n p ≡ any n q
   unfolding any
-  any-cong zero h = refl
-  any-cong (suc n) h = rw (any-cong n (λ k l. h k (omega arith)), h n (omega arith))
+  any_cong zero h = refl
+  any_cong (suc n) h = rw (any_cong n (λ k l. h k (omega arith)), h n (omega arith))
 
-  pub count-cong : (n : ℕ) → ((k : ℕ) → k < n → p k ≡ q k) → count n p ≡ count n q
+  pub count_cong : (n : ℕ) → ((k : ℕ) → k < n → p k ≡ q k) → count n p ≡ count n q
   unfolding count
-  count-cong zero h = refl
-  count-cong (suc n) h = rw (count-cong n (λ k l. h k (omega arith)), h n (omega arith))
+  count_cong zero h = refl
+  count_cong (suc n) h = rw (count_cong n (λ k l. h k (omega arith)), h n (omega arith))
 
 -- test i of those that are passed
 pub every-at : (l : List Bool) (i : ℕ) → every l ≡ true → get_or l i true ≡ true

@@ -16,15 +16,15 @@ module _ (f : ℕ → Bool) (key : ℕ → ℕ) where
   abbrev pub Marks : ℕ → List ℕ → ℕ → Type 0
   Marks size tab i = (v : ℕ) → v < size → get_or tab v 0 ≡ bit (any i (hit v))
 
-  pub marks-none : (size : ℕ) → Marks size (replicate size 0) 0
-  marks-none size v l = get_or-replicate size v 0 0 l ∙ rw (any_none (hit v))
+  pub marks_none : (size : ℕ) → Marks size (replicate size 0) 0
+  marks_none size v l = get_or-replicate size v 0 0 l ∙ rw (any_none (hit v))
 
-  pub marks-skip : (size : ℕ) (tab : List ℕ) (i : ℕ) → f i ≡ false → Marks size tab i → Marks size tab (i + 1)
-  marks-skip size tab i e m v l = m v l ∙ rw (any-more, e, or-false)
+  pub marks_skip : (size : ℕ) (tab : List ℕ) (i : ℕ) → f i ≡ false → Marks size tab i → Marks size tab (i + 1)
+  marks_skip size tab i e m v l = m v l ∙ rw (any-more, e, or-false)
 
   -- i is of the sort, and its entry is set
-  pub marks-set : (size : ℕ) (tab : List ℕ) (i : ℕ) → size ≡ length tab → key i < size → f i ≡ true → Marks size tab i → Marks size (set tab (key i) 1) (i + 1)
-  marks-set size tab i long in_table e m v l =
+  pub marks_set : (size : ℕ) (tab : List ℕ) (i : ℕ) → size ≡ length tab → key i < size → f i ≡ true → Marks size tab i → Marks size (set tab (key i) 1) (i + 1)
+  marks_set size tab i long in_table e m v l =
       elim (ℕ_discrete v (key i)) [
         | yes q ↦
             rw (q, any-more, e, eq-eqb (key i) (key i) refl, or-true) (get_or-set_same tab (key i) 1 0 (rw (← long) in_table))
@@ -36,14 +36,14 @@ module _ (f : ℕ → Bool) (key : ℕ → ℕ) where
   abbrev pub Counts : ℕ → List ℕ → ℕ → Type 0
   Counts size tab i = (v : ℕ) → v < size → get_or tab v 0 ≡ count i (hit v)
 
-  pub counts-none : (size : ℕ) → Counts size (replicate size 0) 0
-  counts-none size v l = get_or-replicate size v 0 0 l ∙ rw (count_none (hit v))
+  pub counts_none : (size : ℕ) → Counts size (replicate size 0) 0
+  counts_none size v l = get_or-replicate size v 0 0 l ∙ rw (count_none (hit v))
 
-  pub counts-skip : (size : ℕ) (tab : List ℕ) (i : ℕ) → f i ≡ false → Counts size tab i → Counts size tab (i + 1)
-  counts-skip size tab i e m v l = m v l ∙ rw (count-more, e, add-zero)
+  pub counts_skip : (size : ℕ) (tab : List ℕ) (i : ℕ) → f i ≡ false → Counts size tab i → Counts size tab (i + 1)
+  counts_skip size tab i e m v l = m v l ∙ rw (count-more, e, add-zero)
 
-  pub counts-add : (size : ℕ) (tab : List ℕ) (i : ℕ) → size ≡ length tab → key i < size → f i ≡ true → Counts size tab i → Counts size (set tab (key i) (get_or tab (key i) 0 + 1)) (i + 1)
-  counts-add size tab i long in_table e m v l =
+  pub counts_add : (size : ℕ) (tab : List ℕ) (i : ℕ) → size ≡ length tab → key i < size → f i ≡ true → Counts size tab i → Counts size (set tab (key i) (get_or tab (key i) 0 + 1)) (i + 1)
+  counts_add size tab i long in_table e m v l =
       elim (ℕ_discrete v (key i)) [
         | yes q ↦
             rw (q, count-more, e, eq-eqb (key i) (key i) refl) (get_or-set_same tab (key i) _ 0 (rw (← long) in_table) ∙ ap (λ (x : ℕ). x + 1) (m (key i) in_table))

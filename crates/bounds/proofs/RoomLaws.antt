@@ -8,41 +8,41 @@ use Rattle.drivers.specs.declared.Call.{Call}
 use Rattle.event.specs.declared.Timed.{Timed}
 use Rattle.definition.specs.Step.{Kept, Left, Ended, done, finish, step_if, refusal, act, step}
 use Rattle.bounds.specs.Room.{Sound, Within, Room, FewOf}
-use Rattle.bounds.specs.Events.{act-takes}
-use Rattle.bounds.specs.RoomLaws.{shut-most, going-so, room_rules, messages-most, calls-most}
+use Rattle.bounds.specs.Events.{act_takes}
+use Rattle.bounds.specs.RoomLaws.{shut-most, going_so, room_rules, messages_most, calls_most}
 
 module _ (v : View) (k : Kept) (sound : Sound v) (within : Within k) where
-  pub act-room : (e : Timed) (answers : List ℕ) → Room 0 0 (act e.what v k e.time (start answers k.opened)).talk
-  act-room e answers =
-      (act-takes room_rules v k sound.drivers within.drivers e.what e.time).pays 0 0 (start answers k.opened)
+  pub act_room : (e : Timed) (answers : List ℕ) → Room 0 0 (act e.what v k e.time (start answers k.opened)).talk
+  act_room e answers =
+      (act_takes room_rules v k sound.drivers within.drivers e.what e.time).pays 0 0 (start answers k.opened)
       (record {
-        messages = omega (arith, messages-most v k sound within e.what);
-        calls = omega (arith, calls-most v k sound within e.what, shut-most k.opened, within.opened);
+        messages = omega (arith, messages_most v k sound within e.what);
+        calls = omega (arith, calls_most v k sound within e.what, shut-most k.opened, within.opened);
         opened = within.opened;
-        never = λ q. going-so q;
+        never = λ q. going_so q;
       })
 
   -- no event ends for want of room
-  pub never-overrun : (e : Timed) (answers : List ℕ) → (act e.what v k e.time (start answers k.opened)).talk.stop ≡ overrun → ⊥
-  never-overrun e answers q = (act-room e answers).never q
+  pub never_overrun : (e : Timed) (answers : List ℕ) → (act e.what v k e.time (start answers k.opened)).talk.stop ≡ overrun → ⊥
+  never_overrun e answers q = (act_room e answers).never q
 
-  finish-few : (s : Stop) (r : Got Left) → Room 0 0 r.talk → FewOf (finish s v k r).ended
-  finish-few going r h = (omega (arith, h.messages), omega (arith, h.calls))
-  finish-few (waits c) r h = tt
-  finish-few declined r h = tt
-  finish-few overrun r h = tt
+  finish_few : (s : Stop) (r : Got Left) → Room 0 0 r.talk → FewOf (finish s v k r).ended
+  finish_few going r h = (omega (arith, h.messages), omega (arith, h.calls))
+  finish_few (waits c) r h = tt
+  finish_few declined r h = tt
+  finish_few overrun r h = tt
 
-  step-few : (e : Timed) (answers : List ℕ) → FewOf (step v k e answers).ended
+  step_few : (e : Timed) (answers : List ℕ) → FewOf (step v k e answers).ended
   unfolding step
-  step-few e answers = at (eqb (refusal e.what v k e.time) 0)
+  step_few e answers = at (eqb (refusal e.what v k e.time) 0)
     where
       at : (b : Bool) → FewOf (step_if b (refusal e.what v k e.time) e v k answers).ended
       at true =
           let r = act e.what v k e.time (start answers k.opened) in
-          finish-few r.talk.stop r (act-room e answers)
+          finish_few r.talk.stop r (act_room e answers)
       at false = tt
 
   -- at most 102 messages and 337 calls
-  pub few-within : (e : Timed) (answers : List ℕ) (ms : List (List ℕ)) (cs : List Call) (used : ℕ) (saved : Bool) →
+  pub few_within : (e : Timed) (answers : List ℕ) (ms : List (List ℕ)) (cs : List Call) (used : ℕ) (saved : Bool) →
       (step v k e answers).ended ≡ done ms cs used saved → (length ms ≤ 102) × (length cs ≤ 337)
-  few-within e answers ms cs used saved q = subst (λ (x : Ended). FewOf x) q (step-few e answers)
+  few_within e answers ms cs used saved q = subst (λ (x : Ended). FewOf x) q (step_few e answers)

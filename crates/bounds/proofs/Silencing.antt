@@ -8,9 +8,9 @@ use Rattle.drivers.specs.Talk.{Talk}
 use Rattle.session.specs.Session.{targets_of}
 use Rattle.definition.specs.Buttons.{button, added_by}
 use Rattle.definition.specs.Step.{Kept, press_at}
-use Rattle.bounds.specs.Silencing.{press-silenced}
+use Rattle.bounds.specs.Silencing.{press_silenced}
 
-pub silenced-so : (v : View) (k : Kept) (now : Float) (note : ℕ) (t : Talk) → no_twice eqb (targets_of k.silenced) ≡ true →
+pub silenced_so : (v : View) (k : Kept) (now : Float) (note : ℕ) (t : Talk) → no_twice eqb (targets_of k.silenced) ≡ true →
     length k.silenced + length (added_by note (press_at v k now)) ≤ 256 →
     (length (button note (press_at v k now) t).value.silenced ≤ 256) × (no_twice eqb (targets_of (button note (press_at v k now) t).value.silenced) ≡ true)
-silenced-so v k now note t o few = press-silenced (press_at v k now) note t o few
+silenced_so v k now note t o few = press_silenced (press_at v k now) note t o few

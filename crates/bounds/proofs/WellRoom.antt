@@ -7,18 +7,18 @@ use Rattle.drivers.specs.declared.Call.{Call}
 use Rattle.event.specs.declared.Timed.{Timed}
 use Rattle.definition.specs.Step.{Kept, act, step, done}
 use Rattle.bounds.specs.Well.{Well}
-use Rattle.bounds.specs.Profiles.{accepted-sound}
-use Rattle.bounds.specs.WellRoom.{well-within}
-use Rattle.bounds.proofs.RoomLaws.{never-overrun, few-within}
+use Rattle.bounds.specs.Profiles.{accepted_sound}
+use Rattle.bounds.specs.WellRoom.{well_within}
+use Rattle.bounds.proofs.RoomLaws.{never_overrun, few_within}
 
 module _ (p : List ℕ) (yes : verdict p ≡ 0) where
   module _ (k : Kept) (well : Well p k) where
     module _ (e : Timed) (answers : List ℕ) where
       -- the line never stops for want of room
-      pub well-never-overrun : (act e.what (view_of p) k e.time (start answers k.opened)).talk.stop ≡ overrun → ⊥
-      well-never-overrun q = never-overrun (view_of p) k (accepted-sound p yes) (well-within p yes k well) e answers q
+      pub well_never_overrun : (act e.what (view_of p) k e.time (start answers k.opened)).talk.stop ≡ overrun → ⊥
+      well_never_overrun q = never_overrun (view_of p) k (accepted_sound p yes) (well_within p yes k well) e answers q
 
       -- a done event has at most 102 messages and 337 calls
-      pub well-few : (ms : List (List ℕ)) (cs : List Call) (used : ℕ) (saved : Bool) →
+      pub well_few : (ms : List (List ℕ)) (cs : List Call) (used : ℕ) (saved : Bool) →
           (step (view_of p) k e answers).ended ≡ done ms cs used saved → (length ms ≤ 102) × (length cs ≤ 337)
-      well-few ms cs used saved q = few-within (view_of p) k (accepted-sound p yes) (well-within p yes k well) e answers ms cs used saved q
+      well_few ms cs used saved q = few_within (view_of p) k (accepted_sound p yes) (well_within p yes k well) e answers ms cs used saved q

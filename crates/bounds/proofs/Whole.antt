@@ -17,10 +17,10 @@ use Rattle.definition.specs.Shape.{well_shaped}
 use Rattle.definition.specs.Step.{Kept, seen, done, refused, Stepped, stepped, step}
 use Rattle.definition.specs.Whole.{whole, offered}
 use Rattle.bounds.specs.Well.{Well}
-use Rattle.bounds.proofs.WellRoom.{well-few}
-use Rattle.bounds.proofs.WellStep.{step-well}
+use Rattle.bounds.proofs.WellRoom.{well_few}
+use Rattle.bounds.proofs.WellStep.{step_well}
 use Rattle.bounds.specs.Channels.{read_low}
-use Rattle.bounds.specs.Whole.{well-seen}
+use Rattle.bounds.specs.Whole.{well_seen}
 
 -- ── an event that is done ──
 
@@ -52,15 +52,15 @@ module _ (p : List ℕ) (s : Session) (record_of answers : List ℕ) (messages c
         read_at (Known e) i a w h = record { accepted = a; shaped = w; event = e; read = i; so = refl }
         read_at Unknown i a w h = absurd (not_done 10 h)
 
-        room-at : (b : Bool) → verdict p ≡ 0 → well_shaped p s ≡ true → IsDone (pick b (stepped (refused 9) k) (offered (read_of record_of) p k answers)) →
+        room_at_lem : (b : Bool) → verdict p ≡ 0 → well_shaped p s ≡ true → IsDone (pick b (stepped (refused 9) k) (offered (read_of record_of) p k answers)) →
             Passed (pick b (stepped (refused 9) k) (offered (read_of record_of) p k answers))
-        room-at true a w h = absurd (not_done 9 h)
-        room-at false a w h = read_at (read_of record_of) refl a w h
+        room_at_lem true a w h = absurd (not_done 9 h)
+        room_at_lem false a w h = read_at (read_of record_of) refl a w h
 
         shape_at : (b : Bool) → verdict p ≡ 0 → well_shaped p s ≡ b →
             IsDone (pick b (pick (ltb messages 306 || ltb calls 5392) (stepped (refused 9) k) (offered (read_of record_of) p k answers)) (stepped (refused 8) k)) →
             Passed (pick b (pick (ltb messages 306 || ltb calls 5392) (stepped (refused 9) k) (offered (read_of record_of) p k answers)) (stepped (refused 8) k))
-        shape_at true a w h = room-at (ltb messages 306 || ltb calls 5392) a w h
+        shape_at true a w h = room_at_lem (ltb messages 306 || ltb calls 5392) a w h
         shape_at false a w h = absurd (not_done 8 h)
 
         verdict-at : (b : Bool) → eqb (verdict p) 0 ≡ b →
@@ -75,15 +75,15 @@ module _ (p : List ℕ) (s : Session) (record_of answers : List ℕ) (messages c
 
     module _ (long : length s.opened ≡ 16) (q : IsDone (whole p s record_of answers messages calls)) where
       -- at most 102 messages and 337 calls
-      pub whole-few : (length ms ≤ 102) × (length cs ≤ 337)
-      whole-few =
+      pub whole_few : (length ms ≤ 102) × (length cs ≤ 337)
+      whole_few =
           let h = passed q in
-          well-few p h.accepted (seen p s) (well-seen p s long h.shaped) h.event answers ms cs used saved
+          well_few p h.accepted (seen p s) (well_seen p s long h.shaped) h.event answers ms cs used saved
           (subst (λ (x : Stepped). IsDone x) h.so q)
 
       -- what it leaves is well shaped; the record is of bytes
-      pub whole-well : ((j : ℕ) → get_or record_of j 0 < 256) → Well p (whole p s record_of answers messages calls).kept
-      whole-well bytes =
+      pub whole_well : ((j : ℕ) → get_or record_of j 0 < 256) → Well p (whole p s record_of answers messages calls).kept
+      whole_well bytes =
           let h = passed q in
           rw h.so
-          (step-well p h.accepted (seen p s) (well-seen p s long h.shaped) h.event (read_low record_of bytes h.event h.read) answers)
+          (step_well p h.accepted (seen p s) (well_seen p s long h.shaped) h.event (read_low record_of bytes h.event h.read) answers)

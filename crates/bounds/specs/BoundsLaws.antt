@@ -8,11 +8,11 @@ use Rattle.event.specs.declared.Timed.{Timed}
 use Rattle.definition.specs.Step.{Kept, Left, Ended, refused, waiting, finish, step_if, refusal, act, step}
 use Rattle.bounds.specs.Bounds.{KeptBy}
 
-finish-keeps : (s : Stop) (v : View) (k : Kept) (r : Got Left) → KeptBy k (finish s v k r).ended (finish s v k r).kept
-finish-keeps going v k r = tt
-finish-keeps (waits c) v k r = refl
-finish-keeps declined v k r = refl
-finish-keeps overrun v k r = refl
+finish_keeps : (s : Stop) (v : View) (k : Kept) (r : Got Left) → KeptBy k (finish s v k r).ended (finish s v k r).kept
+finish_keeps going v k r = tt
+finish_keeps (waits c) v k r = refl
+finish_keeps declined v k r = refl
+finish_keeps overrun v k r = refl
 
 step_keeps : (v : View) (k : Kept) (e : Timed) (answers : List ℕ) → KeptBy k (step v k e answers).ended (step v k e answers).kept
 unfolding step
@@ -21,17 +21,17 @@ step_keeps v k e answers = at (eqb (refusal e.what v k e.time) 0)
     at : (b : Bool) → KeptBy k (step_if b (refusal e.what v k e.time) e v k answers).ended (step_if b (refusal e.what v k e.time) e v k answers).kept
     at true =
         let r = act e.what v k e.time (start answers k.opened) in
-        finish-keeps r.talk.stop v k r
+        finish_keeps r.talk.stop v k r
     at false = refl
 
 -- an event that ended refused has changed nothing
-pub refused-keeps : (v : View) (k : Kept) (e : Timed) (answers : List ℕ) (why : ℕ) →
+pub refused_keeps : (v : View) (k : Kept) (e : Timed) (answers : List ℕ) (why : ℕ) →
     (step v k e answers).ended ≡ refused why → (step v k e answers).kept ≡ k
-refused-keeps v k e answers why q =
+refused_keeps v k e answers why q =
     subst (λ (x : Ended). KeptBy k x (step v k e answers).kept) q (step_keeps v k e answers)
 
 -- nor has one that waits
-pub waiting-keeps : (v : View) (k : Kept) (e : Timed) (answers : List ℕ) (c : Call) →
+pub waiting_keeps : (v : View) (k : Kept) (e : Timed) (answers : List ℕ) (c : Call) →
     (step v k e answers).ended ≡ waiting c → (step v k e answers).kept ≡ k
-waiting-keeps v k e answers c q =
+waiting_keeps v k e answers c q =
     subst (λ (x : Ended). KeptBy k x (step v k e answers).kept) q (step_keeps v k e answers)

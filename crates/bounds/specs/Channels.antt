@@ -13,29 +13,29 @@ use Rattle.event.specs.declared.Read.TheVariants.{Known, Unknown}
 use Rattle.definition.specs.Faders.{in_range}
 use Rattle.bounds.specs.Room.{LowEvent, LowInput}
 
-pick-event : (b : Bool) (x y : Event) → (b ≡ true → LowEvent x) → LowEvent y → LowEvent (pick b x y)
-pick-event true x y h k = h refl
-pick-event false x y h k = k
+pick_event : (b : Bool) (x y : Event) → (b ≡ true → LowEvent x) → LowEvent y → LowEvent (pick b x y)
+pick_event true x y h k = h refl
+pick_event false x y h k = k
 
-pick-input : (b : Bool) (x y : Input) → LowInput x → LowInput y → LowInput (pick b x y)
-pick-input true x y h k = h
-pick-input false x y h k = k
+pick_input : (b : Bool) (x y : Input) → LowInput x → LowInput y → LowInput (pick b x y)
+pick_input true x y h k = h
+pick_input false x y h k = k
 
 -- ── a turn ──
 
-left-low : (n : ℕ) → n ≤ 1000000 → in_range (neg_ℤ (pos n)) ≡ true
-left-low zero h = rw (le-leb 0 1000000 (omega arith))
-left-low (suc n) h = rw (le-leb n 999999 (omega arith))
+left_low : (n : ℕ) → n ≤ 1000000 → in_range (neg_ℤ (pos n)) ≡ true
+left_low zero h = rw (le-leb 0 1000000 (omega arith))
+left_low (suc n) h = rw (le-leb n 999999 (omega arith))
 
-delta-low : (b : ℕ) → b < 256 → in_range (delta_of b) ≡ true
-delta-low b h = go (ltb b 0x40)
+delta_low : (b : ℕ) → b < 256 → in_range (delta_of b) ≡ true
+delta_low b h = go (ltb b 0x40)
   where
     go : (c : Bool) → in_range (pick c (pos b) (neg_ℤ (pos (b - 0x40)))) ≡ true
     go true = le-leb b 1000000 (omega (arith, h))
-    go false = left-low (b - 0x40) (omega (arith, h))
+    go false = left_low (b - 0x40) (omega (arith, h))
 
-encoder-low : (a : ℕ) → ltb a 0x18 ≡ true → a - 0x10 < 8
-encoder-low a e = omega (arith, ltb-true a 0x18 e)
+encoder_low : (a : ℕ) → ltb a 0x18 ≡ true → a - 0x10 < 8
+encoder_low a e = omega (arith, ltb-true a 0x18 e)
 
 -- ── bytes ──
 
@@ -55,37 +55,37 @@ drop-bytes (suc n) (x ∷ l) h = drop-bytes n l (λ i. h (suc i))
 
 -- ── an event ──
 
-event-low : (n status a b : ℕ) → b < 256 → LowEvent (event_of n status a b)
-event-low n status a b h =
-    pick-event (eqb (status / 16) 0xe && leb 3 n) _ _ (λ e. omega arith)
-    (pick-event (eqb (status / 16) 0xb && (leb 3 n && (leb 0x10 a && ltb a 0x18))) _ _ (λ e. (encoder-low a (turned e), delta-low b h))
-    (pick-event (eqb (status / 16) 0x9 && leb 3 n) _ _ (λ e. tt) (pick-event (eqb (status / 16) 0x8 && leb 2 n) _ _ (λ e. tt) tt)))
+event_low : (n status a b : ℕ) → b < 256 → LowEvent (event_of n status a b)
+event_low n status a b h =
+    pick_event (eqb (status / 16) 0xe && leb 3 n) _ _ (λ e. omega arith)
+    (pick_event (eqb (status / 16) 0xb && (leb 3 n && (leb 0x10 a && ltb a 0x18))) _ _ (λ e. (encoder_low a (turned e), delta_low b h))
+    (pick_event (eqb (status / 16) 0x9 && leb 3 n) _ _ (λ e. tt) (pick_event (eqb (status / 16) 0x8 && leb 2 n) _ _ (λ e. tt) tt)))
   where
     turned : (eqb (status / 16) 0xb && (leb 3 n && (leb 0x10 a && ltb a 0x18))) ≡ true → ltb a 0x18 ≡ true
     turned e = and_right (leb 0x10 a) (ltb a 0x18) (and_right (leb 3 n) _ (and_right (eqb (status / 16) 0xb) _ e))
 
-decoded-low : (m : List ℕ) → Bytes m → LowEvent (decode_of m)
+decoded_low : (m : List ℕ) → Bytes m → LowEvent (decode_of m)
 unfolding decode_of
-decoded-low m h = event-low (length m) (get_or m 0 0) (get_or m 1 0) (get_or m 2 0) (h 2)
+decoded_low m h = event_low (length m) (get_or m 0 0) (get_or m 1 0) (get_or m 2 0) (h 2)
 
-input-low : (s : List ℕ) → Bytes s → LowInput (input_of s)
+input_low : (s : List ℕ) → Bytes s → LowInput (input_of s)
 unfolding input_of
-input-low s h =
-    pick-input (eqb (get_or s 0 0) 1) _ _ (decoded-low (message_of s) (take-bytes (get_or s 1 0) (drop 2 s) (drop-bytes 2 s h)))
-    (pick-input (eqb (get_or s 0 0) 2) _ _ tt (pick-input (eqb (get_or s 0 0) 3) _ _ tt (pick-input (eqb (get_or s 0 0) 4) _ _ tt tt)))
+input_low s h =
+    pick_input (eqb (get_or s 0 0) 1) _ _ (decoded_low (message_of s) (take-bytes (get_or s 1 0) (drop 2 s) (drop-bytes 2 s h)))
+    (pick_input (eqb (get_or s 0 0) 2) _ _ tt (pick_input (eqb (get_or s 0 0) 3) _ _ tt (pick_input (eqb (get_or s 0 0) 4) _ _ tt tt)))
 
 -- what was read
 abbrev LowRead : Read → Type 0
 LowRead (Known e) = LowInput e.what
 LowRead Unknown = Unit {0}
 
-read-so : (s : List ℕ) → Bytes s → LowRead (read_of s)
+read_so : (s : List ℕ) → Bytes s → LowRead (read_of s)
 unfolding read_of
-read-so s h = at (event_ok s)
+read_so s h = at (event_ok s)
   where
     at : (b : Bool) → LowRead (pick b (Known (timed_of s)) Unknown)
-    at true = input-low s h
+    at true = input_low s h
     at false = tt
 
 pub read_low : (s : List ℕ) → ((j : ℕ) → get_or s j 0 < 256) → (e : Timed) → read_of s ≡ Known e → LowInput e.what
-read_low s h e q = subst (λ (r : Read). LowRead r) q (read-so s h)
+read_low s h e q = subst (λ (r : Read). LowRead r) q (read_so s h)

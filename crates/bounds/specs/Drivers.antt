@@ -16,7 +16,7 @@ MayTo D found.Nothing = Unit {0}
 
 -- and so may those of a list of commands
 pub data MayAll (D : ℕ → Type 0) : List Entry → Type 0 where
-  no-entry : MayAll D []
+  no_entry_lem : MayAll D []
   one_entry : {e : Entry} {l : List Entry} → D e.command.driver → MayAll D l → MayAll D (e ∷ l)
 
 module _ {A : Type 0} where

@@ -28,11 +28,11 @@ use Rattle.definition.specs.Lamps.{push_transport}
 use Rattle.definition.specs.Faders.{drain}
 use Rattle.definition.specs.Live.{Refreshed, refresh_due, is_due}
 use Rattle.definition.specs.Step.{Kept, rig_at, rig_now, press_at, on_button, on_midi, after_tick, flash_tick, tick_with, tick, act}
-use Rattle.bounds.specs.Drivers.{MayTo, MayAll, no-entry, one_entry, Each, no_more, one_more, MayStrip, MayView, MayKept}
+use Rattle.bounds.specs.Drivers.{MayTo, MayAll, no_entry_lem, one_entry, Each, no_more, one_more, MayStrip, MayView, MayKept}
 use Rattle.bounds.specs.Spending.{Rules, Takes, still, done, giving, up_to, behind, bind, bind_so}
-use Rattle.bounds.specs.Surface.{end_cost, push-costs, flash_bank-takes, tick_flash-takes, bound-costs}
-use Rattle.bounds.specs.Hands.{strip-may, with-may, fader-takes, drain-costs, refresh-takes, refresh-leaves}
-use Rattle.bounds.specs.Presses.{MayRig, button-takes}
+use Rattle.bounds.specs.Surface.{end_cost, push_costs, flash_bank_takes, tick_flash_takes, bound_costs}
+use Rattle.bounds.specs.Hands.{strip_may, with_may, fader_takes, drain_costs, refresh_takes, refresh-leaves}
+use Rattle.bounds.specs.Presses.{MayRig, button_takes}
 
 -- ── the drivers of a bank ──
 
@@ -46,71 +46,71 @@ module _ (D : ℕ → Type 0) where
   each_at (x ∷ l) zero (one_more d h) z = d
   each_at (x ∷ l) (suc i) (one_more d h) z = each_at l i h z
 
-  driver-may : (f : Found) → MayTo D f → Each D (driver_in f)
-  driver-may (found.To d) h = one_more h no_more
-  driver-may found.Nothing h = no_more
+  driver_may : (f : Found) → MayTo D f → Each D (driver_in f)
+  driver_may (found.To d) h = one_more h no_more
+  driver_may found.Nothing h = no_more
 
-  common-may : (l : List ℕ) → Each D l → D 0 → eqb (most_common l) 65535 ≡ false → D (most_common l)
+  common_may : (l : List ℕ) → Each D l → D 0 → eqb (most_common l) 65535 ≡ false → D (most_common l)
   unfolding most_common
-  common-may l h z e = go (first (length l) (top_at l)) e
+  common_may l h z e = go (first (length l) (top_at l)) e
     where
       go : (p : Place) → eqb (value_at l p) 65535 ≡ false → D (value_at l p)
       go (place.At i) q = each_at l i h z
       go place.Nothing q = absurd (true≢false q)
 
-  place-may : (e : Entry) (l : List Entry) → D e.command.driver → MayAll D l → MayAll D (placed e l)
+  place_may : (e : Entry) (l : List Entry) → D e.command.driver → MayAll D l → MayAll D (placed e l)
   unfolding placed change
-  place-may e [] d h = one_entry d no-entry
-  place-may e (x ∷ l) d (one_entry c h) = go (of_kind e.kind x) (place-may e l d h)
+  place_may e [] d h = one_entry d no_entry_lem
+  place_may e (x ∷ l) d (one_entry c h) = go (of_kind e.kind x) (place_may e l d h)
     where
       go : (b : Bool) → MayAll D (change (of_kind e.kind) (λ x. e) e l) → MayAll D (pick b (e ∷ l) (x ∷ change (of_kind e.kind) (λ x. e) e l))
       go true k = one_entry d h
       go false k = one_entry c k
 
-  merged-may : (g own : List Entry) → MayAll D g → MayAll D own → MayAll D (merged g own)
+  merged_may : (g own : List Entry) → MayAll D g → MayAll D own → MayAll D (merged g own)
   unfolding merged
-  merged-may [] own h k = k
-  merged-may (e ∷ g) own (one_entry d h) k = merged-may g (placed e own) h (place-may e own d k)
+  merged_may [] own h k = k
+  merged_may (e ∷ g) own (one_entry d h) k = merged_may g (placed e own) h (place_may e own d k)
 
   module _ (v : View) (may : MayView D v) (lives : Lives) (b : ℕ) (strips : Each (MayStrip D) (strips_or (get_or lives b none))) where
-    own-may : (n : ℕ) → MayTo D (own_fader (here_of v lives b) n)
+    own_may : (n : ℕ) → MayTo D (own_fader (here_of v lives b) n)
     unfolding own_fader
-    own-may n = go (eqb (v.here b).live 65535)
+    own_may n = go (eqb (v.here b).live 65535)
       where
         go : (c : Bool) → MayTo D (pick c ((v.here b).fader n) (found_strip (strip_at n (strips_or (get_or lives b none)))))
         go true = may.faders b n
-        go false = strip-may D n (strips_or (get_or lives b none)) strips
+        go false = strip_may D n (strips_or (get_or lives b none)) strips
 
-    to-may : (n : ℕ) → MayTo D (destination (rig_of v lives b) n)
+    to_may : (n : ℕ) → MayTo D (destination (rig_of v lives b) n)
     unfolding destination
-    to-may n = go (v.globals.fader n) (may.globals n) (own-may n)
+    to_may n = go (v.globals.fader n) (may.globals n) (own_may n)
       where
         go : (g : Found) → MayTo D g → MayTo D (own_fader (here_of v lives b) n) → MayTo D (precede g (own_fader (here_of v lives b) n))
         go (found.To d) h k = h
         go found.Nothing h k = k
 
-    drivers-may : (n : ℕ) → Each D (own_drivers (here_of v lives b) n)
+    drivers_may : (n : ℕ) → Each D (own_drivers (here_of v lives b) n)
     unfolding own_drivers
-    drivers-may zero = no_more
-    drivers-may (suc n) =
-        each_append (own_drivers (here_of v lives b) n) (driver_in (own_fader (here_of v lives b) (n + 1))) (drivers-may n)
-        (driver-may (own_fader (here_of v lives b) (n + 1)) (own-may (n + 1)))
+    drivers_may zero = no_more
+    drivers_may (suc n) =
+        each_append (own_drivers (here_of v lives b) n) (driver_in (own_fader (here_of v lives b) (n + 1))) (drivers_may n)
+        (driver_may (own_fader (here_of v lives b) (n + 1)) (own_may (n + 1)))
 
-    bank-may : eqb (bank_driver (here_of v lives b)) 65535 ≡ false → D (bank_driver (here_of v lives b))
+    bank_may : eqb (bank_driver (here_of v lives b)) 65535 ≡ false → D (bank_driver (here_of v lives b))
     unfolding bank_driver
-    bank-may e = common-may (own_drivers (here_of v lives b) 16) (drivers-may 16) may.first e
+    bank_may e = common_may (own_drivers (here_of v lives b) 16) (drivers_may 16) may.first e
 
-    device-may : eqb (device (here_of v lives b)) 65535 ≡ false → D (device (here_of v lives b))
+    device_may : eqb (device (here_of v lives b)) 65535 ≡ false → D (device (here_of v lives b))
     unfolding device
-    device-may e = go (eqb (v.here b).device 65535) refl e
+    device_may e = go (eqb (v.here b).device 65535) refl e
       where
         go : (c : Bool) → eqb (v.here b).device 65535 ≡ c → eqb (pick c (bank_driver (here_of v lives b)) (v.here b).device) 65535 ≡ false →
             D (pick c (bank_driver (here_of v lives b)) (v.here b).device)
-        go true q f = bank-may f
+        go true q f = bank_may f
         go false q f = may.devices b q
 
-    pub rig-may : MayRig D (rig_of v lives b)
-    rig-may = record { to = to-may; device = device-may; common = bank-may; global = may.commands; own = may.own b }
+    pub rig_may : MayRig D (rig_of v lives b)
+    rig_may = record { to = to_may; device = device_may; common = bank_may; global = may.commands; own = may.own b }
 
 -- ── what each event costs ──
 
@@ -139,53 +139,53 @@ call_cost input.FlashBank v k = 16
 
 module _ {D : ℕ → Type 0} (R : Rules D) (v : View) (k : Kept) (may : MayView D v) (held : MayKept D k) where
   rig : (b : ℕ) → MayRig D (rig_at v k b)
-  rig b = rig-may D v may k.site.lives b (held.lives b)
+  rig b = rig_may D v may k.site.lives b (held.lives b)
 
   pub here : MayRig D (rig_now v k)
   here = rig k.site.bank
 
-  button-costs : (b : Bool) (now : Float) (note : ℕ) → Takes R 89 64 (on_button b v k now note)
-  button-costs true now note = bind R (button-takes R (press_at v k now) here (λ b. (rig b).to) note) (λ p. done R)
-  button-costs false now note = still R
+  button_costs : (b : Bool) (now : Float) (note : ℕ) → Takes R 89 64 (on_button b v k now note)
+  button_costs true now note = bind R (button_takes R (press_at v k now) here (λ b. (rig b).to) note) (λ p. done R)
+  button_costs false now note = still R
 
-  midi-takes : (e : Event) (now : Float) → Takes R 89 64 (on_midi e v k now)
-  midi-takes (event.Fader ch x) now =
-      up_to R (bind R (fader-takes R (rig_now v k) here.to ch x k.desk) (λ d. done R)) (omega arith) (omega arith)
-  midi-takes (event.Encoder ch n) now = still R
-  midi-takes (event.Button b) now = button-costs b.pressed now b.note
-  midi-takes event.Other now = still R
+  midi_takes : (e : Event) (now : Float) → Takes R 89 64 (on_midi e v k now)
+  midi_takes (event.Fader ch x) now =
+      up_to R (bind R (fader_takes R (rig_now v k) here.to ch x k.desk) (λ d. done R)) (omega arith) (omega arith)
+  midi_takes (event.Encoder ch n) now = still R
+  midi_takes (event.Button b) now = button_costs b.pressed now b.note
+  midi_takes event.Other now = still R
 
   abbrev known : Option (List Strip)
   known = get_or k.site.lives k.site.bank none
 
-  flash-takes : (due : Bool) (now : Float) (r : Refreshed) → Each (MayStrip D) r.strips →
+  flash_takes : (due : Bool) (now : Float) (r : Refreshed) → Each (MayStrip D) r.strips →
       Takes R (end_cost k.lamps.flash.on k.lamps.flash.sent) 16 (flash_tick due v k now r)
-  flash-takes due now r h =
+  flash_takes due now r h =
       up_to R
       (bind R
-      (tick_flash-takes R (with_strips r.strips (rig_now v k)) (with-may D (rig_now v k) here.to r.strips h) (targets_of k.silenced) k.desk.moves now k.lamps)
+      (tick_flash_takes R (with_strips r.strips (rig_now v k)) (with_may D (rig_now v k) here.to r.strips h) (targets_of k.silenced) k.desk.moves now k.lamps)
       (λ l. done R {a = after_tick due k now r l}))
       (omega arith) (omega arith)
 
-  tick-takes : (due : Bool) (now : Float) → Takes R (tick_messages k) (tick_calls k) (tick_with due v k now)
-  tick-takes due now =
+  tick_takes : (due : Bool) (now : Float) → Takes R (tick_messages k) (tick_calls k) (tick_with due v k now)
+  tick_takes due now =
       up_to R
       (bind_so R {f = λ t. refresh_due due known (rig_now v k) k.lamps (targets_of k.silenced) (drain (rig_now v k) k.desk t)} {g = flash_tick due v k now}
       (λ r. Each (MayStrip D) r.strips)
-      (behind R (refresh-takes R (rig_now v k) here.to (may.devices k.site.bank) due known k.lamps (targets_of k.silenced))
-      (drain-costs R (rig_now v k) here.to k.desk held.turns))
+      (behind R (refresh_takes R (rig_now v k) here.to (may.devices k.site.bank) due known k.lamps (targets_of k.silenced))
+      (drain_costs R (rig_now v k) here.to k.desk held.turns))
       (λ t. refresh-leaves R (rig_now v k) here.to (may.devices k.site.bank) (held.lives k.site.bank) due known k.lamps (targets_of k.silenced) (drain (rig_now v k) k.desk t))
-      (flash-takes due now))
+      (flash_takes due now))
       (omega arith) (omega arith)
 
-  pub act-takes : (e : Input) (now : Float) → Takes R (message_cost e v k) (call_cost e v k) (act e v k now)
+  pub act_takes : (e : Input) (now : Float) → Takes R (message_cost e v k) (call_cost e v k) (act e v k now)
   unfolding act tick push_transport
-  act-takes (input.Midi e) now = midi-takes e now
-  act-takes input.Tick now = tick-takes (is_due k.site.due k.site.at now) now
-  act-takes input.PushState now = giving R (push-costs R (rig_now v k) here.to k.lamps (targets_of k.silenced))
-  act-takes input.PushTransport now =
+  act_takes (input.Midi e) now = midi_takes e now
+  act_takes input.Tick now = tick_takes (is_due k.site.due k.site.at now) now
+  act_takes input.PushState now = giving R (push_costs R (rig_now v k) here.to k.lamps (targets_of k.silenced))
+  act_takes input.PushTransport now =
       giving R
-      (bound-costs R (merged v.globals.transports (v.here k.site.bank).transports) []
-      (merged-may D v.globals.transports (v.here k.site.bank).transports may.commands (may.own k.site.bank)))
-  act-takes input.FlashBank now =
-      bind R (flash_bank-takes R (rig_now v k) here.to (targets_of k.silenced) k.desk.moves now k.lamps) (λ l. done R)
+      (bound_costs R (merged v.globals.transports (v.here k.site.bank).transports) []
+      (merged_may D v.globals.transports (v.here k.site.bank).transports may.commands (may.own k.site.bank)))
+  act_takes input.FlashBank now =
+      bind R (flash_bank_takes R (rig_now v k) here.to (targets_of k.silenced) k.desk.moves now k.lamps) (λ l. done R)

@@ -26,8 +26,8 @@ use Rattle.definition.specs.Levels.{read, write}
 use Rattle.definition.specs.Faders.{Desk, fader_if, fader_to, fader, key_of, nudge_from, is_zero, nudge_if, apply_nudge, nudges, align_if, write_move, writes, drain}
 use Rattle.definition.specs.Live.{change_if, ask_if, refresh_live, refresh_due, same_as, handed}
 use Rattle.bounds.specs.Drivers.{MayTo, Each, no_more, one_more, MayTurn, MayStrip}
-use Rattle.bounds.specs.Spending.{Rules, Costs, Takes, stay, says, more, after, still, done, giving, line_of, onto, bind, takes-use, takes-read, takes_write}
-use Rattle.bounds.specs.Surface.{push-costs}
+use Rattle.bounds.specs.Spending.{Rules, Costs, Takes, stay, says, more, after, still, done, giving, line_of, onto, bind, takes_use, takes_read, takes_write}
+use Rattle.bounds.specs.Surface.{push_costs}
 
 -- ── a live list's drivers ──
 
@@ -42,23 +42,23 @@ module _ (D : ℕ → Type 0) where
   of_one driver d [] = no_more
   of_one driver d (x ∷ l) = one_more d (of_one driver d l)
 
-  pub strips-may : (driver : ℕ) → D driver → (l : List LiveFader) → Each (MayStrip D) (strips_of driver l)
+  pub strips_may : (driver : ℕ) → D driver → (l : List LiveFader) → Each (MayStrip D) (strips_of driver l)
   unfolding strips_of
-  strips-may driver d l = taken 8 _ (of_one driver d (keep on_surface l))
+  strips_may driver d l = taken 8 _ (of_one driver d (keep on_surface l))
 
-  pub strip-may : (n : ℕ) (l : List Strip) → Each (MayStrip D) l → MayTo D (found_strip (strip_at n l))
+  pub strip_may : (n : ℕ) (l : List Strip) → Each (MayStrip D) l → MayTo D (found_strip (strip_at n l))
   unfolding strip_at find strip_dest
-  strip-may n [] h = tt
-  strip-may n (x ∷ l) (one_more d h) = go (is_strip n x) (strip-may n l h)
+  strip_may n [] h = tt
+  strip_may n (x ∷ l) (one_more d h) = go (is_strip n x) (strip_may n l h)
     where
       go : (b : Bool) → MayTo D (found_strip (find (is_strip n) l)) → MayTo D (found_strip (pick b (some x) (find (is_strip n) l)))
       go true k = d
       go false k = k
 
   -- the same rig with another live list
-  pub with-may : (r : Rig) → ((n : ℕ) → MayTo D (destination r n)) → (l : List Strip) → Each (MayStrip D) l → (n : ℕ) → MayTo D (destination (with_strips l r) n)
+  pub with_may : (r : Rig) → ((n : ℕ) → MayTo D (destination r n)) → (l : List Strip) → Each (MayStrip D) l → (n : ℕ) → MayTo D (destination (with_strips l r) n)
   unfolding destination own_fader
-  with-may r to l h n = go (r.globals.fader n) (eqb r.here.part.live 65535) (found_strip (strip_at n r.here.strips)) (found_strip (strip_at n l)) (to n) (strip-may n l h)
+  with_may r to l h n = go (r.globals.fader n) (eqb r.here.part.live 65535) (found_strip (strip_at n r.here.strips)) (found_strip (strip_at n l)) (to n) (strip_may n l h)
     where
       go : (g : Found) (b : Bool) (x y : Found) → MayTo D (precede g (pick b (r.here.part.fader n) x)) → MayTo D y → MayTo D (precede g (pick b (r.here.part.fader n) y))
       go (found.To d) b x y p q = p
@@ -67,60 +67,60 @@ module _ (D : ℕ → Type 0) where
 
 module _ {D : ℕ → Type 0} (R : Rules D) where
   -- ── a move ──
-  fader_if-takes : (b : Bool) (e : Destination) (k ch : ℕ) (x : Float) (d : Desk) → D e.driver → Takes R 0 1 (fader_if b e k ch x d)
-  fader_if-takes true e k ch x d h = bind R (takes-read R e h) (λ c. done R)
-  fader_if-takes false e k ch x d h = still R
+  fader_if_takes : (b : Bool) (e : Destination) (k ch : ℕ) (x : Float) (d : Desk) → D e.driver → Takes R 0 1 (fader_if b e k ch x d)
+  fader_if_takes true e k ch x d h = bind R (takes_read R e h) (λ c. done R)
+  fader_if_takes false e k ch x d h = still R
 
-  fader_to-takes : (f : Found) (k ch : ℕ) (x : Float) (d : Desk) → MayTo D f → Takes R 0 1 (fader_to f k ch x d)
-  fader_to-takes (found.To e) k ch x d h = fader_if-takes (e.takeover && not (is_marked k d.marks)) e k ch x d h
-  fader_to-takes found.Nothing k ch x d h = still R
+  fader_to_takes : (f : Found) (k ch : ℕ) (x : Float) (d : Desk) → MayTo D f → Takes R 0 1 (fader_to f k ch x d)
+  fader_to_takes (found.To e) k ch x d h = fader_if_takes (e.takeover && not (is_marked k d.marks)) e k ch x d h
+  fader_to_takes found.Nothing k ch x d h = still R
 
-  pub fader-takes : (r : Rig) → ((n : ℕ) → MayTo D (destination r n)) → (ch : ℕ) (x : Float) (d : Desk) → Takes R 0 1 (fader r ch x d)
+  pub fader_takes : (r : Rig) → ((n : ℕ) → MayTo D (destination r n)) → (ch : ℕ) (x : Float) (d : Desk) → Takes R 0 1 (fader r ch x d)
   unfolding fader
-  fader-takes r to ch x d = fader_to-takes (destination r (ch + 1)) (key_of r ch) ch x d (to (ch + 1))
+  fader_takes r to ch x d = fader_to_takes (destination r (ch + 1)) (key_of r ch) ch x d (to (ch + 1))
 
   -- ── the drain ──
-  from-costs : (e : Destination) (sum : ℤ) (c : Level) → D e.driver → Costs R 0 1 (nudge_from c e sum)
-  from-costs e sum (At c) h = line_of R (takes_write R e (nudge c sum) h)
-  from-costs e sum Unknown h = stay R
+  from_costs : (e : Destination) (sum : ℤ) (c : Level) → D e.driver → Costs R 0 1 (nudge_from c e sum)
+  from_costs e sum (At c) h = line_of R (takes_write R e (nudge c sum) h)
+  from_costs e sum Unknown h = stay R
 
-  nudge_if-costs : (b : Bool) (e : Turn) → MayTurn D e → Costs R 0 2 (nudge_if b e)
-  nudge_if-costs true e h = stay R
-  nudge_if-costs false e h = onto R {f = read e.dest} (takes-read R e.dest h) (λ c. from-costs e.dest e.sum c h)
+  nudge_if_costs : (b : Bool) (e : Turn) → MayTurn D e → Costs R 0 2 (nudge_if b e)
+  nudge_if_costs true e h = stay R
+  nudge_if_costs false e h = onto R {f = read e.dest} (takes_read R e.dest h) (λ c. from_costs e.dest e.sum c h)
 
-  nudges-cost : (l : List Turn) → Each (MayTurn D) l → Costs R 0 (2 * length l) (nudges l)
+  nudges_cost : (l : List Turn) → Each (MayTurn D) l → Costs R 0 (2 * length l) (nudges l)
   unfolding nudges apply_nudge
-  nudges-cost [] h = stay R
-  nudges-cost (e ∷ l) (one_more d h) = more R (after R (nudges-cost l h) (nudge_if-costs (is_zero e.sum) e d)) (omega arith) (omega arith)
+  nudges_cost [] h = stay R
+  nudges_cost (e ∷ l) (one_more d h) = more R (after R (nudges_cost l h) (nudge_if_costs (is_zero e.sum) e d)) (omega arith) (omega arith)
 
-  align-costs : (b : Bool) (ch : ℕ) (x : Float) → Costs R 1 0 (align_if b ch x)
-  align-costs true ch x = says R (sent_to ch x)
-  align-costs false ch x = stay R
+  align_costs : (b : Bool) (ch : ℕ) (x : Float) → Costs R 1 0 (align_if b ch x)
+  align_costs true ch x = says R (sent_to ch x)
+  align_costs false ch x = stay R
 
-  move-costs : (b : Bool) (f : Found) (m : Move) → MayTo D f → Costs R 1 1 (write_move b f m)
-  move-costs b (found.To e) m h =
-      onto R {f = write e m.level} (takes_write R e m.level h) (λ v. align-costs (v && b) m.channel m.level)
-  move-costs b found.Nothing m h = stay R
+  move_costs : (b : Bool) (f : Found) (m : Move) → MayTo D f → Costs R 1 1 (write_move b f m)
+  move_costs b (found.To e) m h =
+      onto R {f = write e m.level} (takes_write R e m.level h) (λ v. align_costs (v && b) m.channel m.level)
+  move_costs b found.Nothing m h = stay R
 
   module _ (r : Rig) (to : (n : ℕ) → MayTo D (destination r n)) where
-    writes-cost : (l : List Move) → Costs R (length l) (length l) (writes r l)
+    writes_cost : (l : List Move) → Costs R (length l) (length l) (writes r l)
     unfolding writes
-    writes-cost [] = stay R
-    writes-cost (m ∷ l) =
-        more R (after R (writes-cost l) (move-costs r.positions (destination r (m.channel + 1)) m (to (m.channel + 1)))) (omega arith) (omega arith)
+    writes_cost [] = stay R
+    writes_cost (m ∷ l) =
+        more R (after R (writes_cost l) (move_costs r.positions (destination r (m.channel + 1)) m (to (m.channel + 1)))) (omega arith) (omega arith)
 
-    pub drain-costs : (d : Desk) → Each (MayTurn D) d.turns → Costs R (length d.line) (2 * length d.turns + length d.line) (drain r d)
+    pub drain_costs : (d : Desk) → Each (MayTurn D) d.turns → Costs R (length d.line) (2 * length d.turns + length d.line) (drain r d)
     unfolding drain
-    drain-costs d h = more R (after R (writes-cost d.line) (nudges-cost d.turns h)) (omega arith) (omega arith)
+    drain_costs d h = more R (after R (writes_cost d.line) (nudges_cost d.turns h)) (omega arith) (omega arith)
 
     -- ── a live bank ──
-    change-takes : (b : Bool) (l : List Strip) (x : Lamps) (s : List ℕ) → Each (MayStrip D) l → Takes R 40 16 (change_if b l r x s)
-    change-takes true l x s h = still R
-    change-takes false l x s h = giving R (push-costs R (with_strips l r) (with-may D r to l h) x s)
+    change_takes : (b : Bool) (l : List Strip) (x : Lamps) (s : List ℕ) → Each (MayStrip D) l → Takes R 40 16 (change_if b l r x s)
+    change_takes true l x s h = still R
+    change_takes false l x s h = giving R (push_costs R (with_strips l r) (with_may D r to l h) x s)
 
-    live-takes : (driver which : ℕ) → D driver → Takes R 0 1 (live_of driver which)
+    live_takes : (driver which : ℕ) → D driver → Takes R 0 1 (live_of driver which)
     unfolding live_of plain_call
-    live-takes driver which d = bind R (takes-use R (plain_call 9 driver 0 which) d) (λ x. done R)
+    live_takes driver which d = bind R (takes_use R (plain_call 9 driver 0 which) d) (λ x. done R)
 
     -- the bank's own driver, which is asked, may be used
     module _ (own : eqb r.here.part.device 65535 ≡ false → D r.here.part.device) where
@@ -128,18 +128,18 @@ module _ {D : ℕ → Type 0} (R : Rules D) where
       driven true b h e = absurd (true≢false e)
       driven false b h e = h e
 
-      ask_if-takes : (b : Bool) (known : Option (List Strip)) (x : Lamps) (s : List ℕ) → (b ≡ false → D r.here.part.device) → Takes R 40 17 (ask_if b known r x s)
-      ask_if-takes true known x s h = still R
-      ask_if-takes false known x s h =
-          bind R (live-takes r.here.part.device r.here.part.live (h refl))
-          (λ l. change-takes (same_as known _) (handed r.here.part.device l) x s (strips-may D r.here.part.device (h refl) l.list))
+      ask_if_takes : (b : Bool) (known : Option (List Strip)) (x : Lamps) (s : List ℕ) → (b ≡ false → D r.here.part.device) → Takes R 40 17 (ask_if b known r x s)
+      ask_if_takes true known x s h = still R
+      ask_if_takes false known x s h =
+          bind R (live_takes r.here.part.device r.here.part.live (h refl))
+          (λ l. change_takes (same_as known _) (handed r.here.part.device l) x s (strips_may D r.here.part.device (h refl) l.list))
 
-      pub refresh-takes : (b : Bool) (known : Option (List Strip)) (x : Lamps) (s : List ℕ) → Takes R 40 17 (refresh_due b known r x s)
+      pub refresh_takes : (b : Bool) (known : Option (List Strip)) (x : Lamps) (s : List ℕ) → Takes R 40 17 (refresh_due b known r x s)
       unfolding refresh_live
-      refresh-takes true known x s =
-          ask_if-takes (eqb r.here.part.live 65535 || eqb r.here.part.device 65535) known x s
+      refresh_takes true known x s =
+          ask_if_takes (eqb r.here.part.live 65535 || eqb r.here.part.device 65535) known x s
           (driven (eqb r.here.part.live 65535) (eqb r.here.part.device 65535) own)
-      refresh-takes false known x s = still R
+      refresh_takes false known x s = still R
 
       -- the list that it leaves: the bank's, or what the driver handed over
       module _ (mine : Each (MayStrip D) r.here.strips) where
@@ -152,7 +152,7 @@ module _ {D : ℕ → Type 0} (R : Rules D) where
         unfolding next
         ask-leaves true known x s t h = mine
         ask-leaves false known x s t h =
-            change-leaves (same_as known _) _ x s _ (strips-may D r.here.part.device (h refl) _)
+            change-leaves (same_as known _) _ x s _ (strips_may D r.here.part.device (h refl) _)
 
         pub refresh-leaves : (b : Bool) (known : Option (List Strip)) (x : Lamps) (s : List ℕ) (t : Talk) →
             Each (MayStrip D) (refresh_due b known r x s t).value.strips

@@ -15,44 +15,44 @@ use Rattle.session.specs.Session.{Turn, strips_or}
 use Rattle.session.specs.declared.Strip.{Strip}
 use Rattle.event.specs.declared.Timed.{Timed}
 use Rattle.definition.specs.Step.{Kept, act}
-use Rattle.bounds.specs.Drivers.{MayTo, MayAll, no-entry, one_entry, Each, no_more, one_more, MayTurn, MayStrip, MayView, MayKept}
+use Rattle.bounds.specs.Drivers.{MayTo, MayAll, no_entry_lem, one_entry, Each, no_more, one_more, MayTurn, MayStrip, MayView, MayKept}
 use Rattle.bounds.specs.Spending.{Spent, spending}
-use Rattle.bounds.specs.Events.{act-takes}
+use Rattle.bounds.specs.Events.{act_takes}
 
 -- ── any driver ──
 
 abbrev pub Any : ℕ → Type 0
 Any driver = Unit {0}
 
-any-to : (f : Found) → MayTo Any f
-any-to (found.To d) = tt
-any-to found.Nothing = tt
+any_to : (f : Found) → MayTo Any f
+any_to (found.To d) = tt
+any_to found.Nothing = tt
 
 any-all : (l : List Entry) → MayAll Any l
-any-all [] = no-entry
+any-all [] = no_entry_lem
 any-all (e ∷ l) = one_entry tt (any-all l)
 
-any-strips : (l : List Strip) → Each (MayStrip Any) l
-any-strips [] = no_more
-any-strips (x ∷ l) = one_more tt (any-strips l)
+any_strips : (l : List Strip) → Each (MayStrip Any) l
+any_strips [] = no_more
+any_strips (x ∷ l) = one_more tt (any_strips l)
 
 any-turns : (l : List Turn) → Each (MayTurn Any) l
 any-turns [] = no_more
 any-turns (x ∷ l) = one_more tt (any-turns l)
 
-pub any-view : (v : View) → MayView Any v
-any-view v =
+pub any_view : (v : View) → MayView Any v
+any_view v =
     record {
       first = tt;
-      globals = λ n. any-to (v.globals.fader n);
-      faders = λ b n. any-to ((v.here b).fader n);
+      globals = λ n. any_to (v.globals.fader n);
+      faders = λ b n. any_to ((v.here b).fader n);
       devices = λ b e. tt;
       commands = any-all v.globals.transports;
       own = λ b. any-all (v.here b).transports;
     }
 
 pub any-kept : (k : Kept) → MayKept Any k
-any-kept k = record { lives = λ b. any-strips (strips_or (get_or k.site.lives b none)); turns = any-turns k.desk.turns }
+any-kept k = record { lives = λ b. any_strips (strips_or (get_or k.site.lives b none)); turns = any-turns k.desk.turns }
 
 -- ── the line ──
 
@@ -64,9 +64,9 @@ pub record Keeps (I : Talk → Type 0) : Type 0 where
   pub says : (out : Out) (t : Talk) → I t → I (send_room false (bytes_of out) t)
 
 module _ (I : Talk → Type 0) (keeps : Keeps I) where
-  ask-keeps : (c : Call) (t : Talk) → I t → I (ask c t).talk
+  ask_keeps : (c : Call) (t : Talk) → I t → I (ask c t).talk
   unfolding ask
-  ask-keeps c t h = at t.stop
+  ask_keeps c t h = at t.stop
     where
       fit_at : (b : Bool) → is_unfit (answer_of t.left c.kind) ≡ b → I (ask_fit b c (answer_of t.left c.kind) t).talk
       fit_at true f = keeps.stops declined t h
@@ -76,70 +76,70 @@ module _ (I : Talk → Type 0) (keeps : Keeps I) where
       left_at true = keeps.stops (waits c) t h
       left_at false = fit_at (is_unfit (answer_of t.left c.kind)) refl
 
-      room-at : (b : Bool) → I (ask_room b c t).talk
-      room-at true = keeps.stops overrun t h
-      room-at false = left_at (eqb (length t.left) 0)
+      room_at_lem : (b : Bool) → I (ask_room b c t).talk
+      room_at_lem true = keeps.stops overrun t h
+      room_at_lem false = left_at (eqb (length t.left) 0)
 
       at : (s : Stop) → I (ask_at s c t).talk
-      at going = room-at (leb 337 (length t.calls))
+      at going = room_at_lem (leb 337 (length t.calls))
       at (waits d) = h
       at declined = h
       at overrun = h
 
-  send-keeps : (out : Out) (t : Talk) → I t → I (send out t)
+  send_keeps : (out : Out) (t : Talk) → I t → I (send out t)
   unfolding send
-  send-keeps out t h = at t.stop
+  send_keeps out t h = at t.stop
     where
-      room-at : (b : Bool) → I (send_room b (bytes_of out) t)
-      room-at true = keeps.stops overrun t h
-      room-at false = keeps.says out t h
+      room_at_lem : (b : Bool) → I (send_room b (bytes_of out) t)
+      room_at_lem true = keeps.stops overrun t h
+      room_at_lem false = keeps.says out t h
 
       at : (s : Stop) → I (send_at s (bytes_of out) t)
-      at going = room-at (leb 102 (length t.messages))
+      at going = room_at_lem (leb 102 (length t.messages))
       at (waits d) = h
       at declined = h
       at overrun = h
 
-  open-keeps : (driver name : ℕ) (t : Talk) → I t → I (open_for driver name t).talk
+  open_keeps : (driver name : ℕ) (t : Talk) → I t → I (open_for driver name t).talk
   unfolding open_for next
-  open-keeps driver name t h = at (is_open driver t)
+  open_keeps driver name t h = at (is_open driver t)
     where
       c : Call
       c = plain_call 0 driver name 0
 
       by : (b : Bool) → I (opened_by b driver (ask c t).talk).talk
-      by true = keeps.opens driver (ask c t).talk (ask-keeps c t h)
-      by false = ask-keeps c t h
+      by true = keeps.opens driver (ask c t).talk (ask_keeps c t h)
+      by false = ask_keeps c t h
 
       at : (b : Bool) → I (open_if b driver name t).talk
       at true = h
       at false = by (is_done (ask c t).value.answer)
 
-  use-keeps : (c : Call) (t : Talk) → I t → I (use_call c t).talk
+  use_keeps : (c : Call) (t : Talk) → I t → I (use_call c t).talk
   unfolding use_call next
-  use-keeps c t h = at (open_for c.driver c.name t).value
+  use_keeps c t h = at (open_for c.driver c.name t).value
     where
       u : Talk
       u = (open_for c.driver c.name t).talk
 
       k : I u
-      k = open-keeps c.driver c.name t h
+      k = open_keeps c.driver c.name t h
 
       at : (b : Bool) → I (ask_if b c u).talk
-      at true = ask-keeps c u k
+      at true = ask_keeps c u k
       at false = k
 
   keeping : Spent Any (λ m c. I)
   keeping =
       record {
         less = λ p q i. i;
-        say = λ {m} {c} {t} out i. send-keeps out t i;
-        opens = λ {m} {c} {t} driver name d i. open-keeps driver name t i;
-        uses = λ {m} {c} {t} x d i. use-keeps x t i;
+        say = λ {m} {c} {t} out i. send_keeps out t i;
+        opens = λ {m} {c} {t} driver name d i. open_keeps driver name t i;
+        uses = λ {m} {c} {t} x d i. use_keeps x t i;
       }
 
   -- any event, from the line's start
-  pub act-keeps : (v : View) (k : Kept) (e : Timed) (answers : List ℕ) → I (start answers k.opened) →
+  pub act_keeps : (v : View) (k : Kept) (e : Timed) (answers : List ℕ) → I (start answers k.opened) →
       I (act e.what v k e.time (start answers k.opened)).talk
-  act-keeps v k e answers h =
-      (act-takes (spending keeping) v k (any-view v) (any-kept k) e.what e.time).pays 0 0 (start answers k.opened) h
+  act_keeps v k e answers h =
+      (act_takes (spending keeping) v k (any_view v) (any-kept k) e.what e.time).pays 0 0 (start answers k.opened) h

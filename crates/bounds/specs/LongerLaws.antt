@@ -10,30 +10,30 @@ use Rattle.drivers.specs.declared.Call.{Call}
 use Rattle.event.specs.declared.Timed.{Timed}
 use Rattle.definition.specs.Step.{Kept, Left, done, waiting, finish, finished, step_if, refusal, step}
 use Rattle.bounds.specs.Longer.{Again, run, asked, GoesOn}
-use Rattle.bounds.specs.Events.{act-takes}
-use Rattle.bounds.specs.Keeping.{any-view, any-kept}
-use Rattle.bounds.specs.Steady.{got_more, Longer, steady-rules, steady_by}
+use Rattle.bounds.specs.Events.{act_takes}
+use Rattle.bounds.specs.Keeping.{any_view, any-kept}
+use Rattle.bounds.specs.Steady.{got_more, Longer, steady_rules, steady_by}
 
 module _ (v : View) (k : Kept) (e : Timed) (answers : List ℕ) where
   -- any event, with one answer more or several
-  run-longer : (x : ℕ) (l : List ℕ) → Longer (x ∷ l) (run v k e answers).talk.stop (run v k e answers) (run v k e (answers ++ (x ∷ l)))
-  run-longer x l =
-      (steady_by x l (act-takes (steady-rules x l) v k (any-view v) (any-kept k) e.what e.time)).longer (start answers k.opened) refl
+  run_longer : (x : ℕ) (l : List ℕ) → Longer (x ∷ l) (run v k e answers).talk.stop (run v k e answers) (run v k e (answers ++ (x ∷ l)))
+  run_longer x l =
+      (steady_by x l (act_takes (steady_rules x l) v k (any_view v) (any-kept k) e.what e.time)).longer (start answers k.opened) refl
 
   -- ── an event that is done ──
-  going-so : (s : Stop) (r : Got Left) (ms : List (List ℕ)) (cs : List Call) (used : ℕ) (saved : Bool) →
+  going_so : (s : Stop) (r : Got Left) (ms : List (List ℕ)) (cs : List Call) (used : ℕ) (saved : Bool) →
       (finish s v k r).ended ≡ done ms cs used saved → s ≡ going
-  going-so going r ms cs used saved q = refl
-  going-so (waits c) r ms cs used saved q = cc
-  going-so declined r ms cs used saved q = cc
-  going-so overrun r ms cs used saved q = cc
+  going_so going r ms cs used saved q = refl
+  going_so (waits c) r ms cs used saved q = cc
+  going_so declined r ms cs used saved q = cc
+  going_so overrun r ms cs used saved q = cc
 
   -- the answers left are all that differs
   finished-same : (x : ℕ) (l : List ℕ) → (run v k e answers).talk.stop ≡ going →
       finished v k (run v k e (answers ++ (x ∷ l))) ≡ finished v k (run v k e answers)
   finished-same x l q =
       let r = run v k e answers in
-      let h : run v k e (answers ++ (x ∷ l)) ≡ got_more (x ∷ l) r = subst (λ (s : Stop). Longer (x ∷ l) s r (run v k e (answers ++ (x ∷ l)))) q (run-longer x l) in
+      let h : run v k e (answers ++ (x ∷ l)) ≡ got_more (x ∷ l) r = subst (λ (s : Stop). Longer (x ∷ l) s r (run v k e (answers ++ (x ∷ l)))) q (run_longer x l) in
       ap (λ (s : Got Left). finished v k s) h ∙ at r.talk.stop
     where
       at : (s : Stop) → finish s v k (got_more (x ∷ l) (run v k e answers)) ≡ finish s v k (run v k e answers)
@@ -54,15 +54,15 @@ module _ (v : View) (k : Kept) (e : Timed) (answers : List ℕ) where
 
       at : (b : Bool) → (step_if b why e v k answers).ended ≡ done ms cs used saved →
           step_if b why e v k (answers ++ (x ∷ l)) ≡ step_if b why e v k answers
-      at true h = finished-same x l (going-so (run v k e answers).talk.stop (run v k e answers) ms cs used saved h)
+      at true h = finished-same x l (going_so (run v k e answers).talk.stop (run v k e answers) ms cs used saved h)
       at false h = refl
 
   -- ── an event that waits ──
-  waits-so : (s : Stop) (r : Got Left) (c : Call) → (finish s v k r).ended ≡ waiting c → s ≡ waits c
-  waits-so going r c q = cc
-  waits-so (waits d) r c q = cc
-  waits-so declined r c q = cc
-  waits-so overrun r c q = cc
+  waits_so : (s : Stop) (r : Got Left) (c : Call) → (finish s v k r).ended ≡ waiting c → s ≡ waits c
+  waits_so going r c q = cc
+  waits_so (waits d) r c q = cc
+  waits_so declined r c q = cc
+  waits_so overrun r c q = cc
 
   -- it waits on its line, and was not refused before
   stops_so : (c : Call) → (step v k e answers).ended ≡ waiting c →
@@ -74,15 +74,15 @@ module _ (v : View) (k : Kept) (e : Timed) (answers : List ℕ) where
       why = refusal e.what v k e.time
 
       at : (b : Bool) → (step_if b why e v k answers).ended ≡ waiting c → (b ≡ true) × ((run v k e answers).talk.stop ≡ waits c)
-      at true h = (refl, waits-so (run v k e answers).talk.stop (run v k e answers) c h)
+      at true h = (refl, waits_so (run v k e answers).talk.stop (run v k e answers) c h)
       at false h = (cc, cc)
 
   -- offered again with more answers, it makes the same calls, and then the one for which it waited
-  pub asks-again : (c : Call) → (step v k e answers).ended ≡ waiting c → (more : List ℕ) → 1 ≤ length more →
+  pub asks_again : (c : Call) → (step v k e answers).ended ≡ waiting c → (more : List ℕ) → 1 ≤ length more →
       Again c (asked v k e answers) (run v k e (answers ++ more)).talk
-  asks-again c q [] h = absurd (omega arith)
-  asks-again c q (x ∷ l) h =
-      subst (λ (s : Stop). Longer (x ∷ l) s (run v k e answers) (run v k e (answers ++ (x ∷ l)))) (stops_so c q).1 (run-longer x l)
+  asks_again c q [] h = absurd (omega arith)
+  asks_again c q (x ∷ l) h =
+      subst (λ (s : Stop). Longer (x ∷ l) s (run v k e answers) (run v k e (answers ++ (x ∷ l)))) (stops_so c q).1 (run_longer x l)
 
   goes_so : (c : Call) (before : List Call) (s : Stop) (r : Got Left) → r.talk.stop ≡ s → Again c before r.talk →
       GoesOn before c r.talk.calls (finish s v k r).ended
@@ -99,4 +99,4 @@ module _ (v : View) (k : Kept) (e : Timed) (answers : List ℕ) where
   unfolding step
   goes_on_lem c q more h =
       let r = run v k e (answers ++ more) in
-      rw (stops_so c q).0 (goes_so c (asked v k e answers) r.talk.stop r refl (asks-again c q more h))
+      rw (stops_so c q).0 (goes_so c (asked v k e answers) r.talk.stop r refl (asks_again c q more h))

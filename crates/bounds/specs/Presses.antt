@@ -33,8 +33,8 @@ use Rattle.definition.specs.Scenes.{paged, Started, names_on, names_if, scene_na
 use Rattle.definition.specs.Banks.{select_if, select_bank, next_bank, step_if, step_bank}
 use Rattle.definition.specs.Buttons.{Press, Pressed, pressed, of_bank, of_scene, offered, offered_if, default_of, default_button, run_bound, run_else, run_command, rec_if, rec_loads, bank_of, page, walk, command, rec_as, rec, select_as, mute_as, solo_as, or_first, press_of, button}
 use Rattle.bounds.specs.Drivers.{MayTo, MayAll, one_entry}
-use Rattle.bounds.specs.Spending.{Rules, Costs, Takes, stay, more, still, done, giving, line_of, up_to, behind, onto, onto_so, bind, takes-open, takes-use, takes-done, takes-read, takes-read_mute, takes-write_of, takes_write}
-use Rattle.bounds.specs.Surface.{muted-takes, push-costs, number-takes, flash_bank-takes}
+use Rattle.bounds.specs.Spending.{Rules, Costs, Takes, stay, more, still, done, giving, line_of, up_to, behind, onto, onto_so, bind, takes_open, takes_use, takes_done, takes_read, takes_read_mute, takes_write_of, takes_write}
+use Rattle.bounds.specs.Surface.{muted_takes, push_costs, number_takes, flash_bank_takes}
 
 -- a command's driver may be used
 abbrev pub MayBound : (ℕ → Type 0) → Bound → Type 0
@@ -50,318 +50,318 @@ pub record MayRig (D : ℕ → Type 0) (r : Rig) : Type 0 where
   pub own : MayAll D r.here.part.transports
 
 module _ (D : ℕ → Type 0) where
-  transport-may : (kind : ℕ) (l : List Entry) → MayAll D l → MayBound D (transport_of kind l)
+  transport_may : (kind : ℕ) (l : List Entry) → MayAll D l → MayBound D (transport_of kind l)
   unfolding transport_of find
-  transport-may kind [] h = tt
-  transport-may kind (e ∷ l) (one_entry d h) = go (of_kind kind e) (transport-may kind l h)
+  transport_may kind [] h = tt
+  transport_may kind (e ∷ l) (one_entry d h) = go (of_kind kind e) (transport_may kind l h)
     where
       go : (b : Bool) → MayBound D (bound_by (find (of_kind kind) l)) → MayBound D (bound_by (pick b (some e) (find (of_kind kind) l)))
       go true k = d
       go false k = k
 
-  before-may : (a b : Bound) → MayBound D a → MayBound D b → MayBound D (before a b)
-  before-may (bound.Run c) b h k = h
-  before-may bound.Nothing b h k = k
+  before_may : (a b : Bound) → MayBound D a → MayBound D b → MayBound D (before a b)
+  before_may (bound.Run c) b h k = h
+  before_may bound.Nothing b h k = k
 
-  group-may : (group : ℕ) (f : Found) → MayTo D f → MayTo D (in_group group f)
-  group-may group (found.To d) h = go (eqb d.group group)
+  group_may : (group : ℕ) (f : Found) → MayTo D f → MayTo D (in_group group f)
+  group_may group (found.To d) h = go (eqb d.group group)
     where
       go : (b : Bool) → MayTo D (pick b (found.To d) found.Nothing)
       go true = h
       go false = tt
-  group-may group found.Nothing h = tt
+  group_may group found.Nothing h = tt
 
-  peer-may : (r : Rig) → ((n : ℕ) → MayTo D (destination r n)) → (group n : ℕ) → MayTo D (peer r group n)
+  peer_may : (r : Rig) → ((n : ℕ) → MayTo D (destination r n)) → (group n : ℕ) → MayTo D (peer r group n)
   unfolding peer
-  peer-may r to group n = group-may group (destination r n) (to n)
+  peer_may r to group n = group_may group (destination r n) (to n)
 
 module _ {D : ℕ → Type 0} (R : Rules D) where
-  toggle-takes : (driver name : ℕ) → D driver → Takes R 0 1 (toggle_of driver name)
+  toggle_takes : (driver name : ℕ) → D driver → Takes R 0 1 (toggle_of driver name)
   unfolding toggle_of plain_call
-  toggle-takes driver name d = takes-done R (plain_call 3 driver name 0) d
+  toggle_takes driver name d = takes_done R (plain_call 3 driver name 0) d
 
-  command-takes : (driver name c : ℕ) → D driver → Takes R 0 1 (command_of driver name c)
+  command_takes : (driver name c : ℕ) → D driver → Takes R 0 1 (command_of driver name c)
   unfolding command_of plain_call
-  command-takes driver name c d = takes-done R (plain_call 4 driver name c) d
+  command_takes driver name c d = takes_done R (plain_call 4 driver name c) d
 
-  scenes-takes : (driver : ℕ) → D driver → Takes R 0 1 (scenes_of driver)
+  scenes_takes : (driver : ℕ) → D driver → Takes R 0 1 (scenes_of driver)
   unfolding scenes_of plain_call
-  scenes-takes driver d = bind R (takes-use R (plain_call 6 driver 0 0) d) (λ r. done R)
+  scenes_takes driver d = bind R (takes_use R (plain_call 6 driver 0 0) d) (λ r. done R)
 
-  current-takes : (driver : ℕ) → D driver → Takes R 0 1 (current_of driver)
+  current_takes : (driver : ℕ) → D driver → Takes R 0 1 (current_of driver)
   unfolding current_of plain_call
-  current-takes driver d = bind R (takes-use R (plain_call 7 driver 0 0) d) (λ r. done R)
+  current_takes driver d = bind R (takes_use R (plain_call 7 driver 0 0) d) (λ r. done R)
 
-  load-takes : (driver i : ℕ) → D driver → Takes R 0 1 (load_of driver i)
+  load_takes : (driver i : ℕ) → D driver → Takes R 0 1 (load_of driver i)
   unfolding load_of plain_call
-  load-takes driver i d = takes-done R (plain_call 8 driver 0 i) d
+  load_takes driver i d = takes_done R (plain_call 8 driver 0 i) d
 
   -- ── mute and solo ──
-  back-takes : (e : Destination) (s : List Hushed) → D e.driver → Takes R 0 1 (hand_back e s)
+  back_takes : (e : Destination) (s : List Hushed) → D e.driver → Takes R 0 1 (hand_back e s)
   unfolding hand_back
-  back-takes e s d = giving R (line_of R (takes_write R e _ d))
+  back_takes e s d = giving R (line_of R (takes_write R e _ d))
 
-  keep-takes : (e : Destination) (s : List Hushed) → D e.driver → Takes R 0 1 (keep_level e s)
+  keep_takes : (e : Destination) (s : List Hushed) → D e.driver → Takes R 0 1 (keep_level e s)
   unfolding keep_level
-  keep-takes e s d = bind R (takes-read R e d) (λ l. done R)
+  keep_takes e s d = bind R (takes_read R e d) (λ l. done R)
 
-  zeroed-takes : (e : Destination) (s : List Hushed) → D e.driver → Takes R 0 2 (zeroed e s)
+  zeroed_takes : (e : Destination) (s : List Hushed) → D e.driver → Takes R 0 2 (zeroed e s)
   unfolding zeroed
-  zeroed-takes e s d = bind R (keep-takes e s d) (λ k. giving R (line_of R (takes-write_of R e.driver e.target _ d)))
+  zeroed_takes e s d = bind R (keep_takes e s d) (λ k. giving R (line_of R (takes_write_of R e.driver e.target _ d)))
 
-  mute_level-takes : (b : Bool) (e : Destination) (s : List Hushed) → D e.driver → Takes R 0 2 (mute_level b e s)
-  mute_level-takes true e s d = up_to R (back-takes e s d) (omega arith) (omega arith)
-  mute_level-takes false e s d = zeroed-takes e s d
+  mute_level_takes : (b : Bool) (e : Destination) (s : List Hushed) → D e.driver → Takes R 0 2 (mute_level b e s)
+  mute_level_takes true e s d = up_to R (back_takes e s d) (omega arith) (omega arith)
+  mute_level_takes false e s d = zeroed_takes e s d
 
-  mute_if-takes : (b : Bool) (e : Destination) (s : List Hushed) → D e.driver → Takes R 0 2 (mute_if b e s)
-  mute_if-takes true e s d = up_to R (giving R (line_of R (toggle-takes e.driver e.mute d))) (omega arith) (omega arith)
-  mute_if-takes false e s d = mute_level-takes (is_hushed (kept_by e) (targets_of s)) e s d
+  mute_if_takes : (b : Bool) (e : Destination) (s : List Hushed) → D e.driver → Takes R 0 2 (mute_if b e s)
+  mute_if_takes true e s d = up_to R (giving R (line_of R (toggle_takes e.driver e.mute d))) (omega arith) (omega arith)
+  mute_if_takes false e s d = mute_level_takes (is_hushed (kept_by e) (targets_of s)) e s d
 
-  toggle_if-costs : (o : Option Bool) (b : Bool) (e : Destination) → D e.driver → Costs R 0 1 (toggle_if o b e)
-  toggle_if-costs none b e d = stay R
-  toggle_if-costs (some a) b e d = go (beq a b)
+  toggle_if_costs : (o : Option Bool) (b : Bool) (e : Destination) → D e.driver → Costs R 0 1 (toggle_if o b e)
+  toggle_if_costs none b e d = stay R
+  toggle_if_costs (some a) b e d = go (beq a b)
     where
       go : (c : Bool) → Costs R 0 1 (λ t. pick c t (toggle_of e.driver e.mute t).talk)
       go true = stay R
-      go false = line_of R (toggle-takes e.driver e.mute d)
+      go false = line_of R (toggle_takes e.driver e.mute d)
 
-  set_mute-costs : (e : Destination) (b : Bool) → D e.driver → Costs R 0 2 (set_mute e b)
+  set_mute_costs : (e : Destination) (b : Bool) → D e.driver → Costs R 0 2 (set_mute e b)
   unfolding set_mute
-  set_mute-costs e b d = onto R (takes-read_mute R e d) (λ o. toggle_if-costs o b e d)
+  set_mute_costs e b d = onto R (takes_read_mute R e d) (λ o. toggle_if_costs o b e d)
 
-  back_if-takes : (b : Bool) (e : Destination) (s : List Hushed) → D e.driver → Takes R 0 2 (back_if b e s)
-  back_if-takes true e s d = up_to R (back-takes e s d) (omega arith) (omega arith)
-  back_if-takes false e s d = still R
+  back_if_takes : (b : Bool) (e : Destination) (s : List Hushed) → D e.driver → Takes R 0 2 (back_if b e s)
+  back_if_takes true e s d = up_to R (back_takes e s d) (omega arith) (omega arith)
+  back_if_takes false e s d = still R
 
-  off_if-takes : (b : Bool) (e : Destination) (was : Bool) (s : List Hushed) → D e.driver → Takes R 0 2 (off_if b e was s)
-  off_if-takes true e was s d = giving R (set_mute-costs e was d)
-  off_if-takes false e was s d = back_if-takes (is_hushed (kept_by e) (targets_of s)) e s d
+  off_if_takes : (b : Bool) (e : Destination) (was : Bool) (s : List Hushed) → D e.driver → Takes R 0 2 (off_if b e was s)
+  off_if_takes true e was s d = giving R (set_mute_costs e was d)
+  off_if_takes false e was s d = back_if_takes (is_hushed (kept_by e) (targets_of s)) e s d
 
-  off_to-takes : (f : Found) (was : Bool) (s : List Hushed) → MayTo D f → Takes R 0 2 (off_to f was s)
-  off_to-takes (found.To e) was s d = off_if-takes (has_mute e) e was s d
-  off_to-takes found.Nothing was s d = still R
+  off_to_takes : (f : Found) (was : Bool) (s : List Hushed) → MayTo D f → Takes R 0 2 (off_to f was s)
+  off_to_takes (found.To e) was s d = off_if_takes (has_mute e) e was s d
+  off_to_takes found.Nothing was s d = still R
 
-  silence-takes : (b : Bool) (e : Destination) (s : List Hushed) → D e.driver → Takes R 0 2 (silence_if b e s)
-  silence-takes true e s d = up_to R (giving R (line_of R (takes_write R e _ d))) (omega arith) (omega arith)
-  silence-takes false e s d = bind R (keep-takes e s d) (λ k. giving R (line_of R (takes_write R e _ d)))
+  silence_takes : (b : Bool) (e : Destination) (s : List Hushed) → D e.driver → Takes R 0 2 (silence_if b e s)
+  silence_takes true e s d = up_to R (giving R (line_of R (takes_write R e _ d))) (omega arith) (omega arith)
+  silence_takes false e s d = bind R (keep_takes e s d) (λ k. giving R (line_of R (takes_write R e _ d)))
 
-  on_level-takes : (b : Bool) (e : Destination) (s : List Hushed) → D e.driver → Takes R 0 2 (on_level b e s)
-  on_level-takes true e s d = silence-takes (is_hushed (kept_by e) (targets_of s)) e s d
-  on_level-takes false e s d = back_if-takes (is_hushed (kept_by e) (targets_of s)) e s d
+  on_level_takes : (b : Bool) (e : Destination) (s : List Hushed) → D e.driver → Takes R 0 2 (on_level b e s)
+  on_level_takes true e s d = silence_takes (is_hushed (kept_by e) (targets_of s)) e s d
+  on_level_takes false e s d = back_if_takes (is_hushed (kept_by e) (targets_of s)) e s d
 
-  on_if-takes : (b : Bool) (e : Destination) (silence : Bool) (s : List Hushed) → D e.driver → Takes R 0 2 (on_if b e silence s)
-  on_if-takes true e silence s d = giving R (set_mute-costs e silence d)
-  on_if-takes false e silence s d = on_level-takes silence e s d
+  on_if_takes : (b : Bool) (e : Destination) (silence : Bool) (s : List Hushed) → D e.driver → Takes R 0 2 (on_if b e silence s)
+  on_if_takes true e silence s d = giving R (set_mute_costs e silence d)
+  on_if_takes false e silence s d = on_level_takes silence e s d
 
-  on_to-takes : (f : Found) (silence : Bool) (s : List Hushed) → MayTo D f → Takes R 0 2 (on_to f silence s)
-  on_to-takes (found.To e) silence s d = on_if-takes (has_mute e) e silence s d
-  on_to-takes found.Nothing silence s d = still R
+  on_to_takes : (f : Found) (silence : Bool) (s : List Hushed) → MayTo D f → Takes R 0 2 (on_to f silence s)
+  on_to_takes (found.To e) silence s d = on_if_takes (has_mute e) e silence s d
+  on_to_takes found.Nothing silence s d = still R
 
   module _ (r : Rig) (to : (n : ℕ) → MayTo D (destination r n)) where
-    mute_to-takes : (f : Found) (l : Lamps) (s : List Hushed) → MayTo D f → Takes R 40 18 (mute_to f r l s)
-    mute_to-takes (found.To e) l s d = bind R (mute_if-takes (has_mute e) e s d) (λ k. giving R (push-costs R r to l (targets_of k)))
-    mute_to-takes found.Nothing l s d = still R
+    mute_to_takes : (f : Found) (l : Lamps) (s : List Hushed) → MayTo D f → Takes R 40 18 (mute_to f r l s)
+    mute_to_takes (found.To e) l s d = bind R (mute_if_takes (has_mute e) e s d) (λ k. giving R (push_costs R r to l (targets_of k)))
+    mute_to_takes found.Nothing l s d = still R
 
-    mute-takes : (n : ℕ) (l : Lamps) (s : List Hushed) → Takes R 40 18 (mute r n l s)
+    mute_takes : (n : ℕ) (l : Lamps) (s : List Hushed) → Takes R 40 18 (mute r n l s)
     unfolding mute
-    mute-takes n l s = mute_to-takes (destination r n) l s (to n)
+    mute_takes n l s = mute_to_takes (destination r n) l s (to n)
 
-    solo_off-takes : (group : ℕ) (l : Lamps) (n : ℕ) (s : List Hushed) → Takes R 0 (n * 2) (solo_off (peer r group) l n s)
+    solo_off_takes : (group : ℕ) (l : Lamps) (n : ℕ) (s : List Hushed) → Takes R 0 (n * 2) (solo_off (peer r group) l n s)
     unfolding solo_off
-    solo_off-takes group l zero s = still R
-    solo_off-takes group l (suc n) s =
-        up_to R (bind R (solo_off-takes group l n s) (λ k. off_to-takes (peer r group (n + 1)) _ k (peer-may D r to group (n + 1)))) (omega arith) (omega arith)
+    solo_off_takes group l zero s = still R
+    solo_off_takes group l (suc n) s =
+        up_to R (bind R (solo_off_takes group l n s) (λ k. off_to_takes (peer r group (n + 1)) _ k (peer_may D r to group (n + 1)))) (omega arith) (omega arith)
 
-    notes-take : (group : ℕ) (ts : List ℕ) (n : ℕ) (l : Lamps) → Takes R 0 n (note_mutes (peer r group) ts n l)
+    notes_take : (group : ℕ) (ts : List ℕ) (n : ℕ) (l : Lamps) → Takes R 0 n (note_mutes (peer r group) ts n l)
     unfolding note_mutes
-    notes-take group ts zero l = still R
-    notes-take group ts (suc n) l =
+    notes_take group ts zero l = still R
+    notes_take group ts (suc n) l =
         up_to R
-        (bind R (notes-take group ts n l)
-        (λ k. bind R (muted-takes R (peer r group (n + 1)) ts (peer-may D r to group (n + 1))) (λ b. done R)))
+        (bind R (notes_take group ts n l)
+        (λ k. bind R (muted_takes R (peer r group (n + 1)) ts (peer_may D r to group (n + 1))) (λ b. done R)))
         (omega arith) (omega arith)
 
-    note_if-takes : (b : Bool) (group : ℕ) (ts : List ℕ) (l : Lamps) → Takes R 0 16 (note_if b (peer r group) ts l)
-    note_if-takes true group ts l = notes-take group ts 16 l
-    note_if-takes false group ts l = still R
+    note_if_takes : (b : Bool) (group : ℕ) (ts : List ℕ) (l : Lamps) → Takes R 0 16 (note_if b (peer r group) ts l)
+    note_if_takes true group ts l = notes_take group ts 16 l
+    note_if_takes false group ts l = still R
 
-    solo_on-takes : (group fader n : ℕ) (s : List Hushed) → Takes R 0 (n * 2) (solo_on (peer r group) fader n s)
+    solo_on_takes : (group fader n : ℕ) (s : List Hushed) → Takes R 0 (n * 2) (solo_on (peer r group) fader n s)
     unfolding solo_on
-    solo_on-takes group fader zero s = still R
-    solo_on-takes group fader (suc n) s =
-        up_to R (bind R (solo_on-takes group fader n s) (λ k. on_to-takes (peer r group (n + 1)) _ k (peer-may D r to group (n + 1)))) (omega arith) (omega arith)
+    solo_on_takes group fader zero s = still R
+    solo_on_takes group fader (suc n) s =
+        up_to R (bind R (solo_on_takes group fader n s) (λ k. on_to_takes (peer r group (n + 1)) _ k (peer_may D r to group (n + 1)))) (omega arith) (omega arith)
 
-    solo_if-takes : (b : Bool) (group fader : ℕ) (l : Lamps) (s : List Hushed) → Takes R 40 64 (solo_if b r group fader l s)
-    solo_if-takes true group fader l s =
+    solo_if_takes : (b : Bool) (group fader : ℕ) (l : Lamps) (s : List Hushed) → Takes R 40 64 (solo_if b r group fader l s)
+    solo_if_takes true group fader l s =
         up_to R
-        (bind R (solo_off-takes group l 16 s) (λ k. giving R (push-costs R r to (solo_to 0 (none_noted l)) (targets_of k))))
+        (bind R (solo_off_takes group l 16 s) (λ k. giving R (push_costs R r to (solo_to 0 (none_noted l)) (targets_of k))))
         (omega arith) (omega arith)
-    solo_if-takes false group fader l s =
-        bind R (note_if-takes (eqb l.soloed 0) group (targets_of s) l)
-        (λ n. bind R (solo_on-takes group fader 16 s) (λ k. giving R (push-costs R r to (solo_to fader n) (targets_of k))))
+    solo_if_takes false group fader l s =
+        bind R (note_if_takes (eqb l.soloed 0) group (targets_of s) l)
+        (λ n. bind R (solo_on_takes group fader 16 s) (λ k. giving R (push_costs R r to (solo_to fader n) (targets_of k))))
 
-    solo_with-takes : (f : Found) (fader : ℕ) (l : Lamps) (s : List Hushed) → Takes R 40 64 (solo_with f r fader l s)
-    solo_with-takes (found.To e) fader l s = solo_if-takes (eqb l.soloed fader) e.group fader l s
-    solo_with-takes found.Nothing fader l s = still R
+    solo_with_takes : (f : Found) (fader : ℕ) (l : Lamps) (s : List Hushed) → Takes R 40 64 (solo_with f r fader l s)
+    solo_with_takes (found.To e) fader l s = solo_if_takes (eqb l.soloed fader) e.group fader l s
+    solo_with_takes found.Nothing fader l s = still R
 
-    solo-takes : (n : ℕ) (l : Lamps) (s : List Hushed) → Takes R 40 64 (solo r n l s)
+    solo_takes : (n : ℕ) (l : Lamps) (s : List Hushed) → Takes R 40 64 (solo r n l s)
     unfolding solo
-    solo-takes n l s = solo_with-takes (destination r n) n l s
+    solo_takes n l s = solo_with_takes (destination r n) n l s
 
   -- ── commands ──
-  bound-costs : (b : Bound) → MayBound D b → Costs R 0 1 (run_bound b)
-  bound-costs (bound.Run c) d = line_of R (command-takes c.driver c.target c.command d)
-  bound-costs bound.Nothing d = stay R
+  bound_costs : (b : Bound) → MayBound D b → Costs R 0 1 (run_bound b)
+  bound_costs (bound.Run c) d = line_of R (command_takes c.driver c.target c.command d)
+  bound_costs bound.Nothing d = stay R
 
   module _ (r : Rig) (may : MayRig D r) where
-    offered_if-takes : (b : Bool) (driver kind : ℕ) → Takes R 0 0 (offered_if b r driver kind)
-    offered_if-takes true driver kind = done R
-    offered_if-takes false driver kind = done R
+    offered_if_takes : (b : Bool) (driver kind : ℕ) → Takes R 0 0 (offered_if b r driver kind)
+    offered_if_takes true driver kind = done R
+    offered_if_takes false driver kind = done R
 
-    offered-may : (b : Bool) (driver c : ℕ) → D driver → MayBound D (offered b r.here driver c)
-    offered-may true driver c d = tt
-    offered-may false driver c d = d
+    offered_may : (b : Bool) (driver c : ℕ) → D driver → MayBound D (offered b r.here driver c)
+    offered_may true driver c d = tt
+    offered_may false driver c d = d
 
-    offered_if-may : (b : Bool) (driver kind : ℕ) (t : Talk) → D driver → MayBound D (offered_if b r driver kind t).value
-    offered_if-may true driver kind t d = offered-may (eqb (r.button driver kind) 65535) driver (r.button driver kind) d
-    offered_if-may false driver kind t d = tt
+    offered_if_may : (b : Bool) (driver kind : ℕ) (t : Talk) → D driver → MayBound D (offered_if b r driver kind t).value
+    offered_if_may true driver kind t d = offered_may (eqb (r.button driver kind) 65535) driver (r.button driver kind) d
+    offered_if_may false driver kind t d = tt
 
-    default-takes : (kind : ℕ) → Takes R 0 1 (default_button r kind)
+    default_takes : (kind : ℕ) → Takes R 0 1 (default_button r kind)
     unfolding default_button
-    default-takes kind = go (eqb (bank_driver r.here) 65535) refl
+    default_takes kind = go (eqb (bank_driver r.here) 65535) refl
       where
         go : (b : Bool) → eqb (bank_driver r.here) 65535 ≡ b → Takes R 0 1 (default_of b r (bank_driver r.here) kind)
         go true e = still R
-        go false e = bind R (takes-open R (bank_driver r.here) 0 (may.common e)) (λ ok. offered_if-takes ok (bank_driver r.here) kind)
+        go false e = bind R (takes_open R (bank_driver r.here) 0 (may.common e)) (λ ok. offered_if_takes ok (bank_driver r.here) kind)
 
-    default-may : (kind : ℕ) (t : Talk) → MayBound D (default_button r kind t).value
+    default_may : (kind : ℕ) (t : Talk) → MayBound D (default_button r kind t).value
     unfolding default_button next
-    default-may kind t = go (eqb (bank_driver r.here) 65535) refl
+    default_may kind t = go (eqb (bank_driver r.here) 65535) refl
       where
         go : (b : Bool) → eqb (bank_driver r.here) 65535 ≡ b → MayBound D (default_of b r (bank_driver r.here) kind t).value
         go true e = tt
         go false e =
             let u = open_for (bank_driver r.here) 0 t in
-            offered_if-may u.value (bank_driver r.here) kind u.talk (may.common e)
+            offered_if_may u.value (bank_driver r.here) kind u.talk (may.common e)
 
-    run-costs : (kind : ℕ) → Costs R 0 2 (run_command r kind)
+    run_costs : (kind : ℕ) → Costs R 0 2 (run_command r kind)
     unfolding run_command
-    run-costs kind =
+    run_costs kind =
         go (before (transport_of kind r.globals.transports) (transport_of kind r.here.part.transports))
-        (before-may D (transport_of kind r.globals.transports) (transport_of kind r.here.part.transports)
-        (transport-may D kind r.globals.transports may.global) (transport-may D kind r.here.part.transports may.own))
+        (before_may D (transport_of kind r.globals.transports) (transport_of kind r.here.part.transports)
+        (transport_may D kind r.globals.transports may.global) (transport_may D kind r.here.part.transports may.own))
       where
         go : (b : Bound) → MayBound D b → Costs R 0 2 (run_else b r kind)
-        go (bound.Run c) d = more R (bound-costs (bound.Run c) d) (omega arith) (omega arith)
-        go bound.Nothing d = onto_so R {f = default_button r kind} {g = run_bound} (MayBound D) (default-takes kind) (default-may kind) bound-costs
+        go (bound.Run c) d = more R (bound_costs (bound.Run c) d) (omega arith) (omega arith)
+        go bound.Nothing d = onto_so R {f = default_button r kind} {g = run_bound} (MayBound D) (default_takes kind) (default_may kind) bound_costs
 
-    rec_loads-takes : Takes R 0 1 (rec_loads r)
+    rec_loads_takes : Takes R 0 1 (rec_loads r)
     unfolding rec_loads
-    rec_loads-takes = go (eqb r.here.part.rec 0)
+    rec_loads_takes = go (eqb r.here.part.rec 0)
       where
         go : (b : Bool) → Takes R 0 1 (rec_if b r)
-        go true = bind R (default-takes 0) (λ b. done R)
+        go true = bind R (default_takes 0) (λ b. done R)
         go false = still R
 
     -- ── scenes ──
-    names-take : Takes R 0 1 (scene_names r.here)
+    names_take : Takes R 0 1 (scene_names r.here)
     unfolding scene_names
-    names-take = go (eqb (length r.here.part.scenes) 0)
+    names_take = go (eqb (length r.here.part.scenes) 0)
       where
         on : (b : Bool) → eqb (device r.here) 65535 ≡ b → Takes R 0 1 (names_on b (device r.here))
         on true e = still R
-        on false e = bind R (scenes-takes (device r.here) (may.device e)) (λ l. done R)
+        on false e = bind R (scenes_takes (device r.here) (may.device e)) (λ l. done R)
 
         go : (b : Bool) → Takes R 0 1 (names_if b r.here)
         go true = on (eqb (device r.here) 65535) refl
         go false = still R
 
-    on_device-takes : (names : List ℕ) → Takes R 0 2 (scene_on_device r.here names)
+    on_device_takes : (names : List ℕ) → Takes R 0 2 (scene_on_device r.here names)
     unfolding scene_on_device
-    on_device-takes names = go (eqb (device r.here) 65535) refl
+    on_device_takes names = go (eqb (device r.here) 65535) refl
       where
         on : (i : Index) → D (device r.here) → Takes R 0 1 (on_list i (device r.here) names)
-        on (index.At i) d = bind R (scenes-takes (device r.here) d) (λ l. done R)
+        on (index.At i) d = bind R (scenes_takes (device r.here) d) (λ l. done R)
         on index.Nothing d = still R
 
         go : (b : Bool) → eqb (device r.here) 65535 ≡ b → Takes R 0 2 (on_device_if b (device r.here) names)
         go true e = still R
-        go false e = bind R (current-takes (device r.here) (may.device e)) (λ i. on i (may.device e))
+        go false e = bind R (current_takes (device r.here) (may.device e)) (λ i. on i (may.device e))
 
-    start-takes : (names : List ℕ) (l : Lamps) → Takes R 0 2 (start r.here names l)
+    start_takes : (names : List ℕ) (l : Lamps) → Takes R 0 2 (start r.here names l)
     unfolding start
-    start-takes names l = go (scene_at r.here.bank l)
+    start_takes names l = go (scene_at r.here.bank l)
       where
         go : (p : Place) → Takes R 0 2 (start_if p r.here names l)
         go (place.At i) = still R
-        go place.Nothing = bind R (on_device-takes names) (λ p. done R)
+        go place.Nothing = bind R (on_device_takes names) (λ p. done R)
 
-    load_on-takes : (driver name i : ℕ) → D driver → Takes R 0 2 (load_on driver name i)
+    load_on_takes : (driver name i : ℕ) → D driver → Takes R 0 2 (load_on driver name i)
     unfolding load_on
-    load_on-takes driver name i d = bind R (scenes-takes driver d) (λ l. go l.ok l.list)
+    load_on_takes driver name i d = bind R (scenes_takes driver d) (λ l. go l.ok l.list)
       where
         go : (b : Bool) (all : List ℕ) → Takes R 0 1 (load_if b driver name i all)
-        go true all = load-takes driver _ d
+        go true all = load_takes driver _ d
         go false all = still R
 
-    scene_at-takes : (s : List ℕ) (i : ℕ) (l : Lamps) → Takes R 40 19 (load_scene_at r s i l)
+    scene_at_takes : (s : List ℕ) (i : ℕ) (l : Lamps) → Takes R 40 19 (load_scene_at r s i l)
     unfolding load_scene_at
-    scene_at-takes s i l = bind R names-take (λ names. at (eqb (device r.here) 65535) (leb (length names) i) names refl)
+    scene_at_takes s i l = bind R names_take (λ names. at (eqb (device r.here) 65535) (leb (length names) i) names refl)
       where
         then : (b : Bool) → Takes R 40 16 (loaded_if b r s i l)
-        then true = giving R (push-costs R r may.to _ s)
+        then true = giving R (push_costs R r may.to _ s)
         then false = still R
 
         at : (a b : Bool) (names : List ℕ) → eqb (device r.here) 65535 ≡ a → Takes R 40 18 (load_at_if (a || b) r s i l names)
         at true b names e = still R
         at false true names e = still R
-        at false false names e = bind R (load_on-takes (device r.here) (get_or names i 65535) i (may.device e)) then
+        at false false names e = bind R (load_on_takes (device r.here) (get_or names i 65535) i (may.device e)) then
 
-    page-takes : (right : Bool) (s : List ℕ) (m : Moves) (now : Float) (l : Lamps) → Takes R 89 38 (step_scene right r s m now l)
+    page_takes : (right : Bool) (s : List ℕ) (m : Moves) (now : Float) (l : Lamps) → Takes R 89 38 (step_scene right r s m now l)
     unfolding step_scene
-    page-takes right s m now l = bind R names-take (λ names. at (eqb (length names) 0) names)
+    page_takes right s m now l = bind R names_take (λ names. at (eqb (length names) 0) names)
       where
         show : (i : ℕ) (saved : Bool) (k : Lamps) (b : Bool) → Takes R 49 16 (shown_if b r s m now i k saved)
-        show i saved k true = bind R (number-takes R r may.to s m now i 8 k) (λ z. done R {a = paged z true true})
+        show i saved k true = bind R (number_takes R r may.to s m now i 8 k) (λ z. done R {a = paged z true true})
         show i saved k false = still R
 
         go : (b : Bool) (i : ℕ) (x : Started) → Takes R 89 35 (page_if b r s m now i x)
         go true i x = still R
-        go false i x = bind R (scene_at-takes s i x.lamps) (λ k. show i x.saved k.lamps k.ok)
+        go false i x = bind R (scene_at_takes s i x.lamps) (λ k. show i x.saved k.lamps k.ok)
 
         at : (b : Bool) (names : List ℕ) → Takes R 89 37 (step_scene_if b right r s m now l names)
         at true names = still R
         at false names =
-            bind R (start-takes names l)
+            bind R (start_takes names l)
             (λ x. go (is_at (scene_at r.here.bank x.lamps) (next_scene right (scene_at r.here.bank x.lamps) (length names))) (next_scene right (scene_at r.here.bank x.lamps) (length names)) x)
 
-    scene-takes : (s : List ℕ) (m : Moves) (now : Float) (n : ℕ) (l : Lamps) → Takes R 89 35 (scene r s m now n l)
+    scene_takes : (s : List ℕ) (m : Moves) (now : Float) (n : ℕ) (l : Lamps) → Takes R 89 35 (scene r s m now n l)
     unfolding scene
-    scene-takes s m now n l = bind R (scene_at-takes s (n - 1) l) (λ k. show k.lamps k.ok)
+    scene_takes s m now n l = bind R (scene_at_takes s (n - 1) l) (λ k. show k.lamps k.ok)
       where
         show : (k : Lamps) (b : Bool) → Takes R 49 16 (scene_if b r s m now n k)
-        show k true = bind R (number-takes R r may.to s m now (n - 1) 8 (loaded_by n k)) (λ z. done R {a = paged z true true})
+        show k true = bind R (number_takes R r may.to s m now (n - 1) 8 (loaded_by n k)) (λ z. done R {a = paged z true true})
         show k false = still R
 
   -- ── a bank is selected ──
   module _ (rig_at : ℕ → Rig) (to : (b n : ℕ) → MayTo D (destination (rig_at b) n)) (banks bank i : ℕ) (s : List ℕ) (m : Moves) (now : Float) (l : Lamps) where
-    select-takes : Takes R 89 32 (select_bank rig_at banks bank i s m now l)
+    select_takes : Takes R 89 32 (select_bank rig_at banks bank i s m now l)
     unfolding select_bank
-    select-takes = go (leb banks i)
+    select_takes = go (leb banks i)
       where
         go : (b : Bool) → Takes R 89 32 (select_if b rig_at bank i s m now l)
         go true = still R
-        go false = bind R (behind R (flash_bank-takes R (rig_at i) (to i) s m now l) (push-costs R (rig_at i) (to i) l s)) (λ k. done R)
+        go false = bind R (behind R (flash_bank_takes R (rig_at i) (to i) s m now l) (push_costs R (rig_at i) (to i) l s)) (λ k. done R)
 
-    step_if-takes : (b : Bool) → Takes R 89 32 (step_if b rig_at banks bank i s m now l)
-    step_if-takes true = still R
-    step_if-takes false = select-takes
+    step_if_takes : (b : Bool) → Takes R 89 32 (step_if b rig_at banks bank i s m now l)
+    step_if_takes true = still R
+    step_if_takes false = select_takes
 
   -- ── any press ──
   module _ (p : Press) (may : MayRig D p.rig) (to : (b n : ℕ) → MayTo D (destination (p.rig_at b) n)) where
     on_page : (right : Bool) → Takes R 89 64 (page right p)
     on_page right =
-        up_to R (bind R (page-takes p.rig may right (targets_of p.silenced) p.moves p.now p.lamps) (λ x. done R {a = of_scene (bank_of p) p.silenced x})) (omega arith) (omega arith)
+        up_to R (bind R (page_takes p.rig may right (targets_of p.silenced) p.moves p.now p.lamps) (λ x. done R {a = of_scene (bank_of p) p.silenced x})) (omega arith) (omega arith)
 
     on_walk : (right : Bool) → Takes R 89 64 (walk right p)
     unfolding step_bank
@@ -369,32 +369,32 @@ module _ {D : ℕ → Type 0} (R : Rules D) where
         let i = next_bank right p.banks (bank_of p) in
         up_to R
         (bind R
-        (step_if-takes p.rig_at to p.banks (bank_of p) i (targets_of p.silenced) p.moves p.now p.lamps (eqb i (bank_of p)))
+        (step_if_takes p.rig_at to p.banks (bank_of p) i (targets_of p.silenced) p.moves p.now p.lamps (eqb i (bank_of p)))
         (λ x. done R {a = of_bank p.silenced x}))
         (omega arith) (omega arith)
 
     on_command : (kind : ℕ) → Takes R 0 2 (command kind p)
-    on_command kind = giving R (run-costs p.rig may kind)
+    on_command kind = giving R (run_costs p.rig may kind)
 
     on_mute : (n : ℕ) → Takes R 89 64 (mute_as n p)
     on_mute n =
-        up_to R (bind R (mute-takes p.rig may.to n p.lamps p.silenced) (λ s. done R {a = pressed (bank_of p) p.lamps s false false})) (omega arith) (omega arith)
+        up_to R (bind R (mute_takes p.rig may.to n p.lamps p.silenced) (λ s. done R {a = pressed (bank_of p) p.lamps s false false})) (omega arith) (omega arith)
 
     on_solo : (n : ℕ) → Takes R 89 64 (solo_as n p)
     on_solo n =
-        up_to R (bind R (solo-takes p.rig may.to n p.lamps p.silenced) (λ x. done R {a = pressed (bank_of p) x.lamps x.silenced false false})) (omega arith) (omega arith)
+        up_to R (bind R (solo_takes p.rig may.to n p.lamps p.silenced) (λ x. done R {a = pressed (bank_of p) x.lamps x.silenced false false})) (omega arith) (omega arith)
 
     on_rec : (ch : ℕ) → Takes R 89 64 (rec ch p)
-    on_rec ch = up_to R (bind R (rec_loads-takes p.rig may) (λ b. go b)) (omega arith) (omega arith)
+    on_rec ch = up_to R (bind R (rec_loads_takes p.rig may) (λ b. go b)) (omega arith) (omega arith)
       where
         go : (b : Bool) → Takes R 89 35 (rec_as b ch p)
-        go true = bind R (scene-takes p.rig may (targets_of p.silenced) p.moves p.now (ch + 1) p.lamps) (λ x. done R {a = of_scene (bank_of p) p.silenced x})
+        go true = bind R (scene_takes p.rig may (targets_of p.silenced) p.moves p.now (ch + 1) p.lamps) (λ x. done R {a = of_scene (bank_of p) p.silenced x})
         go false = up_to R (on_command 0) (omega arith) (omega arith)
 
     on_select : (b : Bool) (ch : ℕ) → Takes R 89 64 (select_as b ch p)
     on_select true ch =
         up_to R
-        (bind R (select-takes p.rig_at to p.banks (bank_of p) ch (targets_of p.silenced) p.moves p.now p.lamps)
+        (bind R (select_takes p.rig_at to p.banks (bank_of p) ch (targets_of p.silenced) p.moves p.now p.lamps)
         (λ x. done R {a = of_bank p.silenced x}))
         (omega arith) (omega arith)
     on_select false ch = up_to R (on_command 3) (omega arith) (omega arith)
@@ -403,9 +403,9 @@ module _ {D : ℕ → Type 0} (R : Rules D) where
     either true h k = h
     either false h k = k
 
-    pub button-takes : (note : ℕ) → Takes R 89 64 (button note p)
+    pub button_takes : (note : ℕ) → Takes R 89 64 (button note p)
     unfolding button press_of
-    button-takes note =
+    button_takes note =
         let kind = kind_of note in
         let ch = or_first (channel_of note) in
         either (eqb kind 7) (on_page true)

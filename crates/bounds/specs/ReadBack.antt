@@ -14,7 +14,7 @@ use Rattle.drivers.specs.declared.Call.{Call}
 use Rattle.event.specs.declared.Timed.{Timed}
 use Rattle.definition.specs.Step.{Kept, Left, Ended, done, refused, waiting, finish, step_if, refusal, act, step}
 use Rattle.bounds.specs.Drivers.{Each, no_more, one_more}
-use Rattle.bounds.specs.Keeping.{Keeps, act-keeps}
+use Rattle.bounds.specs.Keeping.{Keeps, act_keeps}
 
 -- ── three bytes ──
 
@@ -30,10 +30,10 @@ ThreeOf (waiting c) = Unit {0}
 abbrev Threes : Talk → Type 0
 Threes t = Each Three t.messages
 
-out-three : (out : Out) → Three (bytes_of out)
+out_three : (out : Out) → Three (bytes_of out)
 unfolding bytes_of
-out-three (Led note on) = refl
-out-three (Position channel raw) = refl
+out_three (Led note on) = refl
+out_three (Position channel raw) = refl
 
 one-behind : (l : List (List ℕ)) (x : List ℕ) → Each Three l → Three x → Each Three (l ++ (x ∷ []))
 one-behind [] x h k = one_more k no_more
@@ -46,52 +46,52 @@ threes =
       stops = λ s t h. h;
       takes = λ c t f h. h;
       opens = λ driver t h. h;
-      says = λ out t h. one-behind t.messages (bytes_of out) h (out-three out);
+      says = λ out t h. one-behind t.messages (bytes_of out) h (out_three out);
     }
 
-finish-three : (s : Stop) (v : View) (k : Kept) (r : Got Left) → Each Three r.talk.messages → ThreeOf (finish s v k r).ended
-finish-three going v k r h = h
-finish-three (waits c) v k r h = tt
-finish-three declined v k r h = tt
-finish-three overrun v k r h = tt
+finish_three : (s : Stop) (v : View) (k : Kept) (r : Got Left) → Each Three r.talk.messages → ThreeOf (finish s v k r).ended
+finish_three going v k r h = h
+finish_three (waits c) v k r h = tt
+finish_three declined v k r h = tt
+finish_three overrun v k r h = tt
 
-pub step-three : (v : View) (k : Kept) (e : Timed) (answers : List ℕ) → ThreeOf (step v k e answers).ended
+pub step_three : (v : View) (k : Kept) (e : Timed) (answers : List ℕ) → ThreeOf (step v k e answers).ended
 unfolding step
-step-three v k e answers = at (eqb (refusal e.what v k e.time) 0)
+step_three v k e answers = at (eqb (refusal e.what v k e.time) 0)
   where
     at : (b : Bool) → ThreeOf (step_if b (refusal e.what v k e.time) e v k answers).ended
     at true =
         let r = act e.what v k e.time (start answers k.opened) in
-        finish-three r.talk.stop v k r (act-keeps Threes threes v k e answers no_more)
+        finish_three r.talk.stop v k r (act_keeps Threes threes v k e answers no_more)
     at false = tt
 
 -- ── messages, read back ──
 
-message-behind : (a b c : ℕ) (bs : List ℕ) (n : ℕ) → message_at (a ∷ b ∷ c ∷ bs) (3 * suc n) ≡ message_at bs (3 * n)
-message-behind a b c bs n =
+message_behind : (a b c : ℕ) (bs : List ℕ) (n : ℕ) → message_at (a ∷ b ∷ c ∷ bs) (3 * suc n) ≡ message_at bs (3 * n)
+message_behind a b c bs n =
     let x : 3 * suc n ≡ suc (suc (suc (3 * n))) = omega arith in
     let y : 3 * suc n + 1 ≡ suc (suc (suc (3 * n + 1))) = omega arith in
     let z : 3 * suc n + 2 ≡ suc (suc (suc (3 * n + 2))) = omega arith in
     rw (z, y, x)
 
-message-first : (n a b c : ℕ) (bs : List ℕ) → messages_in (suc n) (a ∷ b ∷ c ∷ bs) ≡ (a ∷ b ∷ c ∷ []) ∷ messages_in n bs
+message_first : (n a b c : ℕ) (bs : List ℕ) → messages_in (suc n) (a ∷ b ∷ c ∷ bs) ≡ (a ∷ b ∷ c ∷ []) ∷ messages_in n bs
 unfolding messages_in
-message-first zero a b c bs = refl
-message-first (suc n) a b c bs = rw (message-first n a b c bs, message-behind a b c bs n)
+message_first zero a b c bs = refl
+message_first (suc n) a b c bs = rw (message_first n a b c bs, message_behind a b c bs n)
 
-its-message : (m : List ℕ) → Three m → (n : ℕ) (bs : List ℕ) → messages_in (suc n) (m ++ bs) ≡ m ∷ messages_in n bs
-its-message [] h n bs = absurd (omega arith)
-its-message (a ∷ []) h n bs = absurd (omega arith)
-its-message (a ∷ b ∷ []) h n bs = absurd (omega arith)
-its-message (a ∷ b ∷ c ∷ []) h n bs = message-first n a b c bs
-its-message (a ∷ b ∷ c ∷ d ∷ m) h n bs = absurd (omega arith)
+its_message : (m : List ℕ) → Three m → (n : ℕ) (bs : List ℕ) → messages_in (suc n) (m ++ bs) ≡ m ∷ messages_in n bs
+its_message [] h n bs = absurd (omega arith)
+its_message (a ∷ []) h n bs = absurd (omega arith)
+its_message (a ∷ b ∷ []) h n bs = absurd (omega arith)
+its_message (a ∷ b ∷ c ∷ []) h n bs = message_first n a b c bs
+its_message (a ∷ b ∷ c ∷ d ∷ m) h n bs = absurd (omega arith)
 
-pub messages-back : (ms : List (List ℕ)) (rest : List ℕ) → Each Three ms → messages_in (length ms) (joined ms ++ rest) ≡ ms
+pub messages_back : (ms : List (List ℕ)) (rest : List ℕ) → Each Three ms → messages_in (length ms) (joined ms ++ rest) ≡ ms
 unfolding messages_in joined
-messages-back [] rest h = refl
-messages-back (m ∷ ms) rest (one_more k h) =
+messages_back [] rest h = refl
+messages_back (m ∷ ms) rest (one_more k h) =
     rw (append_assoc m (joined ms) rest)
-    (its-message m k (length ms) (joined ms ++ rest) ∙ ap (λ (l : List (List ℕ)). m ∷ l) (messages-back ms rest h))
+    (its_message m k (length ms) (joined ms ++ rest) ∙ ap (λ (l : List (List ℕ)). m ∷ l) (messages_back ms rest h))
 
 -- ── calls, read back ──
 
@@ -112,9 +112,9 @@ same64 : (n : ℕ) → again64 n ≡ n
 same64 n = rw (same32 (n % 4294967296), same32 (n / 4294967296)) (halves64 n)
 
 -- a call's record reads as the call, whatever stands behind it
-its-call : (c : Call) (bs : List ℕ) → call_at (call_bytes c ++ bs) 0 ≡ c
+its_call : (c : Call) (bs : List ℕ) → call_at (call_bytes c ++ bs) 0 ≡ c
 unfolding le64
-its-call c bs =
+its_call c bs =
     let call : ℕ → ℕ → ℕ → Call = λ name argument level. record { kind = c.kind; driver = c.driver; name = name; argument = argument; level = level } in
     ap (λ (n : ℕ). call n (again32 c.argument) (again64 c.level)) (halves16 c.name)
     ∙ ap (λ (n : ℕ). call c.name n (again64 c.level)) (same32 c.argument)
@@ -148,7 +148,7 @@ call-behind xs bs n h =
 
 call-first : (n : ℕ) (c : Call) (bs : List ℕ) → calls_in (suc n) (call_bytes c ++ bs) ≡ c ∷ calls_in n bs
 unfolding calls_in
-call-first zero c bs = ap (λ (x : Call). x ∷ []) (its-call c bs)
+call-first zero c bs = ap (λ (x : Call). x ∷ []) (its_call c bs)
 call-first (suc n) c bs = rw (call-first n c bs, call-behind (call_bytes c) bs n refl)
 
 pub calls_back : (cs : List Call) (rest : List ℕ) → calls_in (length cs) (encode cs ++ rest) ≡ cs

@@ -9,10 +9,10 @@ use Rattle.std.proofs.Math.ListN.{get_or, length-append, get_or-append}
 use borrow.Author.Tests.{ltb-true, lt-ltb, le-ltb}
 use Rattle.base.specs.Choice.{pick}
 use Rattle.base.specs.Range.{all}
-use Rattle.base.specs.RangeLaws.{all-cong}
+use Rattle.base.specs.RangeLaws.{all_cong}
 use Rattle.base.specs.Words.{le16, le32, le64}
 use Rattle.drivers.specs.Answers.{count_at, item_at, items_of, item_fits, live_fits, list_if, scene_list, live_list, to_read, to_playing, to_scenes, to_current, to_live, answer_to, answer_of, item_count, is_unfit}
-use Rattle.drivers.specs.AnswersLaws.{part-long}
+use Rattle.drivers.specs.AnswersLaws.{part_long}
 use Rattle.drivers.specs.declared.Answer.{Answer}
 use Rattle.drivers.specs.declared.Answer.TheVariants as answer
 
@@ -42,8 +42,8 @@ module _ (part more : List ℕ) where
   level-same i h = cc (long_same i (omega arith), long_same (i + 4) (omega arith))
 
   -- ── a list's items ──
-  item-same : (i : ℕ) → 32 + 16 * i ≤ length part → item_at (part ++ more) i ≡ item_at part i
-  item-same i h =
+  item_same : (i : ℕ) → 32 + 16 * i ≤ length part → item_at (part ++ more) i ≡ item_at part i
+  item_same i h =
       cc (
         byte-same (16 * i + 17) (omega arith),
         word_same (16 * i + 18) (omega arith),
@@ -55,15 +55,15 @@ module _ (part more : List ℕ) where
   pub items-same : (n : ℕ) → 16 + 16 * n ≤ length part → items_of n (part ++ more) ≡ items_of n part
   unfolding items_of
   items-same zero h = refl
-  items-same (suc n) h = let a = items-same n (omega arith) in let b = item-same n (omega arith) in cc
+  items-same (suc n) h = let a = items-same n (omega arith) in let b = item_same n (omega arith) in cc
 
-  fits-same : (i : ℕ) → 32 + 16 * i ≤ length part → item_fits (part ++ more) i ≡ item_fits part i
-  fits-same i h = cc (byte-same (16 * i + 16) (omega arith), word_same (16 * i + 18) (omega arith))
+  fits_same : (i : ℕ) → 32 + 16 * i ≤ length part → item_fits (part ++ more) i ≡ item_fits part i
+  fits_same i h = cc (byte-same (16 * i + 16) (omega arith), word_same (16 * i + 18) (omega arith))
 
   live_same : (i : ℕ) → 32 + 16 * i ≤ length part → live_fits (part ++ more) i ≡ live_fits part i
   live_same i h =
       cc (
-        fits-same i h,
+        fits_same i h,
         word_same (16 * i + 20) (omega arith),
         word_same (16 * i + 22) (omega arith),
         byte-same (16 * i + 1) (omega arith),
@@ -88,7 +88,7 @@ module _ (part more : List ℕ) where
             let n = count_at part in
             let l : n < length part / 16 = ltb-true n (length part / 16) e in
             let k : ltb n (length (part ++ more) / 16) ≡ true = lt-ltb n (length (part ++ more) / 16) (omega (arith, length-append part more)) in
-            let a : all n (fits (part ++ more)) ≡ all n (fits part) = all-cong (fits (part ++ more)) (fits part) n (λ i lt. h i (omega arith)) in
+            let a : all n (fits (part ++ more)) ≡ all n (fits part) = all_cong (fits (part ++ more)) (fits part) n (λ i lt. h i (omega arith)) in
             let c : count_at (part ++ more) ≡ n = count_same in
             rw (c, k, a, e)
         go false e u = absurd (there (ltb most (count_at part)) (pick (all (count_at part) (fits part)) answer.List answer.Unfit) (rw e at u))
@@ -102,24 +102,24 @@ module _ (part more : List ℕ) where
     unfolding to_playing
     playing-same k = cc (byte-same 1 (omega arith))
 
-    current-same : (k : ℕ) → to_current k (part ++ more) ≡ to_current k part
+    current_same : (k : ℕ) → to_current k (part ++ more) ≡ to_current k part
     unfolding to_current
-    current-same k = cc (long_same 4 (omega arith))
+    current_same k = cc (long_same 4 (omega arith))
 
     scenes-same : (k : ℕ) → Same (to_scenes k (part ++ more)) (to_scenes k part)
     unfolding to_scenes scene_list
-    scenes-same k = pick_same (eqb k 6) (list_same item_fits 128 fits-same) (same refl)
+    scenes-same k = pick_same (eqb k 6) (list_same item_fits 128 fits_same) (same refl)
 
-    lives-same : (k : ℕ) → Same (to_live k (part ++ more)) (to_live k part)
+    lives_same : (k : ℕ) → Same (to_live k (part ++ more)) (to_live k part)
     unfolding to_live live_list
-    lives-same k = pick_same (eqb k 6) (list_same live_fits 32 live_same) (same refl)
+    lives_same k = pick_same (eqb k 6) (list_same live_fits 32 live_same) (same refl)
 
     to_same : (kind k : ℕ) → Same (answer_to kind k (part ++ more)) (answer_to kind k part)
     to_same kind k =
         pick_same (eqb kind 1) (same (read_same k))
         (pick_same (eqb kind 5) (same (playing-same k))
         (pick_same (eqb kind 6) (scenes-same k)
-        (pick_same (eqb kind 7) (same (current-same k)) (pick_same (eqb kind 9) (lives-same k) (same refl)))))
+        (pick_same (eqb kind 7) (same (current_same k)) (pick_same (eqb kind 9) (lives_same k) (same refl)))))
 
     first-same : (kind : ℕ) → Same (answer_of (part ++ more) kind) (answer_of part kind)
     unfolding answer_of
@@ -129,10 +129,10 @@ module _ (part more : List ℕ) where
         let c : get_or (part ++ more) 0 0 ≡ get_or part 0 0 = byte-same 0 (omega arith) in
         rw (a, b, c) (pick_same (eqb (get_or part 0 0) 0) (same refl) (to_same kind (get_or part 0 0)))
 
-  pub answer-same : (kind : ℕ) → is_unfit (answer_of part kind) ≡ false → answer_of (part ++ more) kind ≡ answer_of part kind
-  answer-same kind u = (first-same (part-long part kind _ refl u) kind).so u
+  pub answer_same : (kind : ℕ) → is_unfit (answer_of part kind) ≡ false → answer_of (part ++ more) kind ≡ answer_of part kind
+  answer_same kind u = (first-same (part_long part kind _ refl u) kind).so u
 
   -- so are the number of its items and the items
-  pub count-as : (kind : ℕ) → is_unfit (answer_of part kind) ≡ false → item_count (answer_of part kind) (part ++ more) ≡ item_count (answer_of part kind) part
+  pub count_as : (kind : ℕ) → is_unfit (answer_of part kind) ≡ false → item_count (answer_of part kind) (part ++ more) ≡ item_count (answer_of part kind) part
   unfolding item_count
-  count-as kind u = cc (count_same (part-long part kind _ refl u))
+  count_as kind u = cc (count_same (part_long part kind _ refl u))

@@ -39,14 +39,14 @@ shut-opened (b ∷ l) (suc i) h e = omega (arith, shut-opened l i (omega arith) 
 
 -- ── the line ──
 
-pub going-so : going ≡ overrun → ⊥
-going-so e = let z : ◌≡◌ {A = ℕ} 0 1 = cc in omega arith
+pub going_so : going ≡ overrun → ⊥
+going_so e = let z : ◌≡◌ {A = ℕ} 0 1 = cc in omega arith
 
-waits-so : {c : Call} → waits c ≡ overrun → ⊥
-waits-so e = let z : ◌≡◌ {A = ℕ} 0 1 = cc in omega arith
+waits_so : {c : Call} → waits c ≡ overrun → ⊥
+waits_so e = let z : ◌≡◌ {A = ℕ} 0 1 = cc in omega arith
 
-declined-so : declined ≡ overrun → ⊥
-declined-so e = let z : ◌≡◌ {A = ℕ} 0 1 = cc in omega arith
+declined_so : declined ≡ overrun → ⊥
+declined_so e = let z : ◌≡◌ {A = ℕ} 0 1 = cc in omega arith
 
 -- what a call leaves
 record Asked (m c : ℕ) (t u : Talk) : Type 0 where
@@ -54,57 +54,57 @@ record Asked (m c : ℕ) (t u : Talk) : Type 0 where
   same : u.opened ≡ t.opened
 
 module _ {m c : ℕ} (x : Call) (t : Talk) (h : Room m (1 + c) t) where
-  kept-so : Asked m c t t
-  kept-so =
+  kept_so : Asked m c t t
+  kept_so =
       record {
         room = record { messages = h.messages; calls = omega (arith, h.calls); opened = h.opened; never = h.never };
         same = refl;
       }
 
-  fit-room : (b : Bool) → Asked m c t (ask_fit b x (answer_of t.left x.kind) t).talk
-  fit-room true =
+  fit_room : (b : Bool) → Asked m c t (ask_fit b x (answer_of t.left x.kind) t).talk
+  fit_room true =
       record {
-        room = record { messages = h.messages; calls = omega (arith, h.calls); opened = h.opened; never = λ e. declined-so e };
+        room = record { messages = h.messages; calls = omega (arith, h.calls); opened = h.opened; never = λ e. declined_so e };
         same = refl;
       }
-  fit-room false =
+  fit_room false =
       record {
         room = record { messages = h.messages; calls = omega (arith, h.calls, length-append t.calls (x ∷ [])); opened = h.opened; never = h.never };
         same = refl;
       }
 
-  left-room : (b : Bool) → Asked m c t (ask_left b x t).talk
-  left-room true =
+  left_room : (b : Bool) → Asked m c t (ask_left b x t).talk
+  left_room true =
       record {
-        room = record { messages = h.messages; calls = omega (arith, h.calls); opened = h.opened; never = λ e. waits-so e };
+        room = record { messages = h.messages; calls = omega (arith, h.calls); opened = h.opened; never = λ e. waits_so e };
         same = refl;
       }
-  left-room false = fit-room (is_unfit (answer_of t.left x.kind))
+  left_room false = fit_room (is_unfit (answer_of t.left x.kind))
 
-  room-room : (b : Bool) → leb 337 (length t.calls) ≡ b → Asked m c t (ask_room b x t).talk
-  room-room true e = absurd (omega (arith, h.calls, leb-true 337 (length t.calls) e))
-  room-room false e = left-room (eqb (length t.left) 0)
+  room_room : (b : Bool) → leb 337 (length t.calls) ≡ b → Asked m c t (ask_room b x t).talk
+  room_room true e = absurd (omega (arith, h.calls, leb-true 337 (length t.calls) e))
+  room_room false e = left_room (eqb (length t.left) 0)
 
   at_room : (s : Stop) → Asked m c t (ask_at s x t).talk
-  at_room going = room-room (leb 337 (length t.calls)) refl
-  at_room (waits d) = kept-so
-  at_room declined = kept-so
-  at_room overrun = kept-so
+  at_room going = room_room (leb 337 (length t.calls)) refl
+  at_room (waits d) = kept_so
+  at_room declined = kept_so
+  at_room overrun = kept_so
 
-  ask-room : Asked m c t (ask x t).talk
+  ask_room_lem : Asked m c t (ask x t).talk
   unfolding ask
-  ask-room = at_room t.stop
+  ask_room_lem = at_room t.stop
 
-send-room : {m c : ℕ} (out : Out) (t : Talk) → Room (1 + m) c t → Room m c (send out t)
+send_room_lem : {m c : ℕ} (out : Out) (t : Talk) → Room (1 + m) c t → Room m c (send out t)
 unfolding send
-send-room {m} {c} out t h = at t.stop
+send_room_lem {m} {c} out t h = at t.stop
   where
     same : Room m c t
     same = record { messages = omega (arith, h.messages); calls = h.calls; opened = h.opened; never = h.never }
 
-    room-at : (b : Bool) → leb 102 (length t.messages) ≡ b → Room m c (send_room b (bytes_of out) t)
-    room-at true e = absurd (omega (arith, h.messages, leb-true 102 (length t.messages) e))
-    room-at false e =
+    room_at_lem : (b : Bool) → leb 102 (length t.messages) ≡ b → Room m c (send_room b (bytes_of out) t)
+    room_at_lem true e = absurd (omega (arith, h.messages, leb-true 102 (length t.messages) e))
+    room_at_lem false e =
         record {
           messages = omega (arith, h.messages, length-append t.messages (bytes_of out ∷ []));
           calls = h.calls;
@@ -113,7 +113,7 @@ send-room {m} {c} out t h = at t.stop
         }
 
     at : (s : Stop) → Room m c (send_at s (bytes_of out) t)
-    at going = room-at (leb 102 (length t.messages)) refl
+    at going = room_at_lem (leb 102 (length t.messages)) refl
     at (waits d) = same
     at declined = same
     at overrun = same
@@ -123,9 +123,9 @@ record Opened (m c : ℕ) (r : Got Bool) : Type 0 where
   room : Room m c r.talk
   ready : r.value ≡ true → Room m (1 + c) r.talk
 
-open-room : {m c : ℕ} (driver name : ℕ) (t : Talk) → IsDriver driver → Room m (1 + c) t → Opened m c (open_for driver name t)
+open_room : {m c : ℕ} (driver name : ℕ) (t : Talk) → IsDriver driver → Room m (1 + c) t → Opened m c (open_for driver name t)
 unfolding open_for next opening is_open
-open-room {m} {c} driver name t d h = at (get_or t.opened driver false) refl
+open_room {m} {c} driver name t d h = at (get_or t.opened driver false) refl
   where
     x : Call
     x = plain_call 0 driver name 0
@@ -134,7 +134,7 @@ open-room {m} {c} driver name t d h = at (get_or t.opened driver false) refl
     u = (ask x t).talk
 
     a : Asked m c t u
-    a = ask-room x t h
+    a = ask_room_lem x t h
 
     by : (b : Bool) → get_or t.opened driver false ≡ false → Opened m c (opened_by b driver u)
     by true e =
@@ -156,31 +156,31 @@ open-room {m} {c} driver name t d h = at (get_or t.opened driver false) refl
         }
     at false e = by (is_done (ask x t).value.answer) e
 
-use-room : {m c : ℕ} (x : Call) (t : Talk) → IsDriver x.driver → Room m (1 + c) t → Room m c (use_call x t).talk
+use_room : {m c : ℕ} (x : Call) (t : Talk) → IsDriver x.driver → Room m (1 + c) t → Room m c (use_call x t).talk
 unfolding use_call next
-use-room {m} {c} x t d h = at (open_for x.driver x.name t).value refl
+use_room {m} {c} x t d h = at (open_for x.driver x.name t).value refl
   where
     u : Talk
     u = (open_for x.driver x.name t).talk
 
     o : Opened m c (open_for x.driver x.name t)
-    o = open-room x.driver x.name t d h
+    o = open_room x.driver x.name t d h
 
     at : (b : Bool) → (open_for x.driver x.name t).value ≡ b → Room m c (ask_if b x u).talk
-    at true e = (ask-room x u (o.ready e)).room
+    at true e = (ask_room_lem x u (o.ready e)).room
     at false e = o.room
 
-pub room-spent : Spent IsDriver Room
-room-spent =
+pub room_spent : Spent IsDriver Room
+room_spent =
     record {
       less = λ p q i. record { messages = omega (arith, i.messages, p); calls = omega (arith, i.calls, q); opened = i.opened; never = i.never };
-      say = λ {m} {c} {t} out i. send-room out t i;
-      opens = λ {m} {c} {t} driver name d i. (open-room driver name t d i).room;
-      uses = λ {m} {c} {t} x d i. use-room x t d i;
+      say = λ {m} {c} {t} out i. send_room_lem out t i;
+      opens = λ {m} {c} {t} driver name d i. (open_room driver name t d i).room;
+      uses = λ {m} {c} {t} x d i. use_room x t d i;
     }
 
 abbrev pub room_rules : Rules IsDriver
-room_rules = spending room-spent
+room_rules = spending room_spent
 
 -- ── any event ──
 
@@ -204,19 +204,19 @@ end-most true sent h = omega (arith, h refl)
 end-most false sent h = omega arith
 
 module _ (v : View) (k : Kept) (sound : Sound v) (within : Within k) where
-  pub messages-most : (e : Input) → message_cost e v k ≤ 102
-  messages-most (input.Midi e) = omega arith
-  messages-most input.Tick =
+  pub messages_most : (e : Input) → message_cost e v k ≤ 102
+  messages_most (input.Midi e) = omega arith
+  messages_most input.Tick =
       omega (arith, within.line, end-most k.lamps.flash.on k.lamps.flash.sent within.flash)
-  messages-most input.PushState = omega arith
-  messages-most input.PushTransport =
+  messages_most input.PushState = omega arith
+  messages_most input.PushTransport =
       omega (arith, merged-most v.globals.transports (v.here k.site.bank).transports, sound.globals, sound.own k.site.bank)
-  messages-most input.FlashBank = omega arith
+  messages_most input.FlashBank = omega arith
 
-  pub calls-most : (e : Input) → call_cost e v k ≤ 321
-  calls-most (input.Midi e) = omega arith
-  calls-most input.Tick = omega (arith, within.line, within.turns)
-  calls-most input.PushState = omega arith
-  calls-most input.PushTransport =
+  pub calls_most : (e : Input) → call_cost e v k ≤ 321
+  calls_most (input.Midi e) = omega arith
+  calls_most input.Tick = omega (arith, within.line, within.turns)
+  calls_most input.PushState = omega arith
+  calls_most input.PushTransport =
       omega (arith, merged-most v.globals.transports (v.here k.site.bank).transports, sound.globals, sound.own k.site.bank)
-  calls-most input.FlashBank = omega arith
+  calls_most input.FlashBank = omega arith

@@ -13,7 +13,7 @@ use Rattle.session.specs.Session.{targets_of}
 use Rattle.session.specs.SessionLaws.{same_hushed}
 use Rattle.definition.specs.Muting.{added_by_solo, added_by_mute}
 use Rattle.definition.specs.Buttons.{Press, Pressed, page, walk, command, rec_loads, rec_as, rec, select_as, mute_as, solo_as, or_first, press_of, button, added_by}
-use Rattle.definition.specs.SilencingLaws.{fits, once-keys, Within, held, mute-so, solo-so}
+use Rattle.definition.specs.SilencingLaws.{fits, once_keys, Within, held, mute_so, solo_so}
 
 -- ── any press ──
 
@@ -22,27 +22,27 @@ module _ (p : Press) (o : no_twice same_hushed p.silenced ≡ true) where
   Adds adds f = (t : Talk) → Within (targets_of p.silenced ++ adds) (f t).value.silenced
 
   module _ (adds : List ℕ) where
-    page-adds : (right : Bool) → Adds adds (page right p)
+    page_adds : (right : Bool) → Adds adds (page right p)
     unfolding next
-    page-adds right t = held p.silenced adds o
+    page_adds right t = held p.silenced adds o
 
-    walk-adds : (right : Bool) → Adds adds (walk right p)
+    walk_adds : (right : Bool) → Adds adds (walk right p)
     unfolding next
-    walk-adds right t = held p.silenced adds o
+    walk_adds right t = held p.silenced adds o
 
-    rec_as-adds : (b : Bool) (ch : ℕ) → Adds adds (rec_as b ch p)
+    rec_as_adds : (b : Bool) (ch : ℕ) → Adds adds (rec_as b ch p)
     unfolding next
-    rec_as-adds true ch t = held p.silenced adds o
-    rec_as-adds false ch t = held p.silenced adds o
+    rec_as_adds true ch t = held p.silenced adds o
+    rec_as_adds false ch t = held p.silenced adds o
 
-    rec-adds : (ch : ℕ) → Adds adds (rec ch p)
+    rec_adds : (ch : ℕ) → Adds adds (rec ch p)
     unfolding next
-    rec-adds ch t = let u = rec_loads p.rig t in rec_as-adds u.value ch u.talk
+    rec_adds ch t = let u = rec_loads p.rig t in rec_as_adds u.value ch u.talk
 
-    select-adds : (b : Bool) (ch : ℕ) → Adds adds (select_as b ch p)
+    select_adds : (b : Bool) (ch : ℕ) → Adds adds (select_as b ch p)
     unfolding next
-    select-adds true ch t = held p.silenced adds o
-    select-adds false ch t = held p.silenced adds o
+    select_adds true ch t = held p.silenced adds o
+    select_adds false ch t = held p.silenced adds o
 
     either : (b : Bool) (f g : Act Pressed) → Adds adds f → Adds adds g → Adds adds (pick b f g)
     either true f g x y = x
@@ -53,35 +53,35 @@ module _ (p : Press) (o : no_twice same_hushed p.silenced ≡ true) where
       Adds (pick a (added_by_mute p.rig n (targets_of p.silenced)) (pick b (added_by_solo p.rig n p.lamps (targets_of p.silenced)) []))
       (pick a (mute_as n p) (pick b (solo_as n p) f))
   unfolding next
-  mute-solo true b n f h t = mute-so p.silenced o p.rig n p.lamps t
-  mute-solo false true n f h t = solo-so p.silenced o p.rig n p.lamps t
+  mute-solo true b n f h t = mute_so p.silenced o p.rig n p.lamps t
+  mute-solo false true n f h t = solo_so p.silenced o p.rig n p.lamps t
   mute-solo false false n f h t = h t
 
-  button-adds : (note : ℕ) → Adds (added_by note p) (button note p)
+  button_adds : (note : ℕ) → Adds (added_by note p) (button note p)
   unfolding button press_of added_by
-  button-adds note =
+  button_adds note =
       let kind = kind_of note in
       let ch = or_first (channel_of note) in
       let adds = added_by note p in
-      either adds (eqb kind 7) (page true p) _ (page-adds adds true)
-      (either adds (eqb kind 6) (page false p) _ (page-adds adds false)
-      (either adds (eqb kind 5 || eqb kind 9) (walk true p) _ (walk-adds adds true)
-      (either adds (eqb kind 4 || eqb kind 8) (walk false p) _ (walk-adds adds false)
+      either adds (eqb kind 7) (page true p) _ (page_adds adds true)
+      (either adds (eqb kind 6) (page false p) _ (page_adds adds false)
+      (either adds (eqb kind 5 || eqb kind 9) (walk true p) _ (walk_adds adds true)
+      (either adds (eqb kind 4 || eqb kind 8) (walk false p) _ (walk_adds adds false)
       (mute-solo (eqb kind 2) (eqb kind 1) (ch + 1) _
-      (either [] (eqb kind 0) (rec ch p) _ (rec-adds [] ch)
-      (either [] (eqb kind 3) (select_as p.rig.here.part.select ch p) (command kind p) (select-adds [] p.rig.here.part.select ch)
+      (either [] (eqb kind 0) (rec ch p) _ (rec_adds [] ch)
+      (either [] (eqb kind 3) (select_as p.rig.here.part.select ch p) (command kind p) (select_adds [] p.rig.here.part.select ch)
       (λ t. held p.silenced [] o)))))))
 
 -- a press that fits leaves at most 256 silenced targets, none twice
-pub press-silenced : (p : Press) (note : ℕ) (t : Talk) → no_twice eqb (targets_of p.silenced) ≡ true →
+pub press_silenced : (p : Press) (note : ℕ) (t : Talk) → no_twice eqb (targets_of p.silenced) ≡ true →
     length p.silenced + length (added_by note p) ≤ 256 →
     (length (button note p t).value.silenced ≤ 256) × (no_twice eqb (targets_of (button note p t).value.silenced) ≡ true)
-press-silenced p note t o few =
+press_silenced p note t o few =
     let s = p.silenced in
     let after = (button note p t).value.silenced in
     let m = targets_of s ++ added_by note p in
-    let w : Within m after = button-adds p (sym (once-keys (λ e. e.target) s) ∙ o) note t in
+    let w : Within m after = button_adds p (sym (once_keys (λ e. e.target) s) ∙ o) note t in
     let long : length m ≡ length (targets_of s) + length (added_by note p) = length-append (targets_of s) (added_by note p) in
     let same : length (targets_of s) ≡ length s = length-map s (λ e. e.target) in
     let short : length after ≤ length m = fits (λ e. e.target) after m w.once w.all in
-    (omega arith, once-keys (λ e. e.target) after ∙ w.once)
+    (omega arith, once_keys (λ e. e.target) after ∙ w.once)

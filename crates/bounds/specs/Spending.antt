@@ -85,35 +85,35 @@ module _ {D : ℕ → Type 0} (R : Rules D) where
     bind h k = bind_so (λ a. Unit {0}) h (λ t. tt) (λ a p. k a)
 
   -- ── the calls ──
-  pub takes-open : (driver name : ℕ) → D driver → Takes R 0 1 (open_for driver name)
-  takes-open driver name d = record { pays = R.opens driver name d }
+  pub takes_open : (driver name : ℕ) → D driver → Takes R 0 1 (open_for driver name)
+  takes_open driver name d = record { pays = R.opens driver name d }
 
-  pub takes-use : (c : Call) → D c.driver → Takes R 0 1 (use_call c)
-  takes-use c d = record { pays = R.uses c d }
+  pub takes_use : (c : Call) → D c.driver → Takes R 0 1 (use_call c)
+  takes_use c d = record { pays = R.uses c d }
 
-  pub takes-done : (c : Call) → D c.driver → Takes R 0 1 (use_done c)
+  pub takes_done : (c : Call) → D c.driver → Takes R 0 1 (use_done c)
   unfolding use_done
-  takes-done c d = bind (takes-use c d) (λ x. done)
+  takes_done c d = bind (takes_use c d) (λ x. done)
 
-  pub takes-read_of : (driver name : ℕ) → D driver → Takes R 0 1 (read_of driver name)
+  pub takes_read_of : (driver name : ℕ) → D driver → Takes R 0 1 (read_of driver name)
   unfolding read_of plain_call
-  takes-read_of driver name d = bind (takes-use (plain_call 1 driver name 0) d) (λ x. done)
+  takes_read_of driver name d = bind (takes_use (plain_call 1 driver name 0) d) (λ x. done)
 
-  pub takes-read : (e : Destination) → D e.driver → Takes R 0 1 (read e)
+  pub takes_read : (e : Destination) → D e.driver → Takes R 0 1 (read e)
   unfolding read
-  takes-read e d = bind (takes-read_of e.driver e.target d) (λ x. done)
+  takes_read e d = bind (takes_read_of e.driver e.target d) (λ x. done)
 
-  pub takes-read_mute : (e : Destination) → D e.driver → Takes R 0 1 (read_mute e)
+  pub takes_read_mute : (e : Destination) → D e.driver → Takes R 0 1 (read_mute e)
   unfolding read_mute
-  takes-read_mute e d = bind (takes-read_of e.driver e.mute d) (λ x. done)
+  takes_read_mute e d = bind (takes_read_of e.driver e.mute d) (λ x. done)
 
-  pub takes-write_of : (driver name : ℕ) (x : Float) → D driver → Takes R 0 1 (write_of driver name x)
+  pub takes_write_of : (driver name : ℕ) (x : Float) → D driver → Takes R 0 1 (write_of driver name x)
   unfolding write_of write_call
-  takes-write_of driver name x d = takes-done (write_call driver name x) d
+  takes_write_of driver name x d = takes_done (write_call driver name x) d
 
   pub takes_write : (e : Destination) (x : Float) → D e.driver → Takes R 0 1 (write e x)
   unfolding write
-  takes_write e x d = takes-write_of e.driver e.target _ d
+  takes_write e x d = takes_write_of e.driver e.target _ d
 
 -- ── a law of the line: what is true of it, with room for m messages and c uses more ──
 

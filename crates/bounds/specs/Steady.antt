@@ -8,14 +8,14 @@ use Rattle.std.proofs.lemmas.List.{drop-append-le}
 use Rattle.protocol.specs.Protocol.{bytes_of}
 use Rattle.protocol.specs.declared.Out.{Out}
 use Rattle.drivers.specs.Answers.{answer_of, item_count, items_of, is_unfit, is_done}
-use Rattle.drivers.specs.AnswersLaws.{answer-there}
+use Rattle.drivers.specs.AnswersLaws.{answer_there}
 use Rattle.drivers.specs.Talk.{Stop, going, waits, declined, overrun, Talk, Got, Act, got, next, Reply, no_reply, ask, ask_at, ask_room, ask_left, ask_fit, plain_call, opening, is_open, open_for, open_if, opened_by, ask_if, use_call, send, send_at, send_room}
 use Rattle.drivers.specs.declared.Call.{Call}
 use Rattle.drivers.specs.declared.Answer.{Answer}
 use Rattle.bounds.specs.Longer.{Starts, Again}
 use Rattle.bounds.specs.Spending.{Rules, Takes}
 use Rattle.bounds.specs.Keeping.{Any}
-use Rattle.bounds.specs.Reading.{answer-same, count-as, items-same}
+use Rattle.bounds.specs.Reading.{answer_same, count_as, items-same}
 
 -- the same line with more answers behind those that are left
 abbrev pub with_more : List ℕ → Talk → Talk
@@ -39,14 +39,14 @@ pub record Grown (before calls : List Call) : Type 0 where
   pub rest : List Call
   pub whole : calls ≡ before ++ rest
 
-grown-same : (l : List Call) → Grown l l
-grown-same l = record { rest = []; whole = sym (append-nil l) }
+grown_same : (l : List Call) → Grown l l
+grown_same l = record { rest = []; whole = sym (append-nil l) }
 
-grown-on : {a b c : List Call} → Grown a b → Grown b c → Grown a c
-grown-on {a} h k = record { rest = h.rest ++ k.rest; whole = k.whole ∙ ap (λ (l : List Call). l ++ k.rest) h.whole ∙ append_assoc a h.rest k.rest }
+grown_on : {a b c : List Call} → Grown a b → Grown b c → Grown a c
+grown_on {a} h k = record { rest = h.rest ++ k.rest; whole = k.whole ∙ ap (λ (l : List Call). l ++ k.rest) h.whole ∙ append_assoc a h.rest k.rest }
 
-starts-on : {a b l : List Call} {c : Call} → Starts a c b → Grown b l → Starts a c l
-starts-on {a} {c = c} h k =
+starts_on : {a b l : List Call} {c : Call} → Starts a c b → Grown b l → Starts a c l
+starts_on {a} {c = c} h k =
     record { rest = h.rest ++ k.rest; whole = k.whole ∙ ap (λ (l : List Call). l ++ k.rest) h.whole ∙ append_assoc a (c ∷ h.rest) k.rest }
 
 module _ {A : Type 0} where
@@ -74,20 +74,20 @@ module _ {A B : Type 0} (more : List ℕ) {f : Act A} {g : A → Act B} (P : A �
   halts : (t : Talk) → Stopped (f t).talk.stop → (g (f t).value (f t).talk).talk ≡ (f t).talk
   halts t s = (second t).sticky (f t).talk s
 
-  halts-as : (t : Talk) (w : Stop) → Stopped w → (f t).talk.stop ≡ w → (g (f t).value (f t).talk).talk.stop ≡ w
-  halts-as t w s e = ap (λ (u : Talk). u.stop) (halts t (subst (λ (x : Stop). Stopped x) (sym e) s)) ∙ e
+  halts_as : (t : Talk) (w : Stop) → Stopped w → (f t).talk.stop ≡ w → (g (f t).value (f t).talk).talk.stop ≡ w
+  halts_as t w s e = ap (λ (u : Talk). u.stop) (halts t (subst (λ (x : Stop). Stopped x) (sym e) s)) ∙ e
 
-  halts-calls : (t : Talk) (w : Stop) → Stopped w → (f t).talk.stop ≡ w → (g (f t).value (f t).talk).talk.calls ≡ (f t).talk.calls
-  halts-calls t w s e = ap (λ (u : Talk). u.calls) (halts t (subst (λ (x : Stop). Stopped x) (sym e) s))
+  halts_calls : (t : Talk) (w : Stop) → Stopped w → (f t).talk.stop ≡ w → (g (f t).value (f t).talk).talk.calls ≡ (f t).talk.calls
+  halts_calls t w s e = ap (λ (u : Talk). u.calls) (halts t (subst (λ (x : Stop). Stopped x) (sym e) s))
 
-  again-on : (c : Call) (before : List Call) (t : Talk) → Again c before (f t).talk → Again c before (g (f t).value (f t).talk).talk
-  again-on c before t (inl (d, b)) = inl (halts-as t declined tt d, halts-calls t declined tt d ∙ b)
-  again-on c before t (inr s) = inr (starts-on s ((second t).grows (f t).talk))
+  again_on : (c : Call) (before : List Call) (t : Talk) → Again c before (f t).talk → Again c before (g (f t).value (f t).talk).talk
+  again_on c before t (inl (d, b)) = inl (halts_as t declined tt d, halts_calls t declined tt d ∙ b)
+  again_on c before t (inr s) = inr (starts_on s ((second t).grows (f t).talk))
 
-  chain-longer : (t : Talk) (w : Stop) → (f t).talk.stop ≡ w → Longer more w (f t) (f (with_more more t)) →
+  chain_longer : (t : Talk) (w : Stop) → (f t).talk.stop ≡ w → Longer more w (f t) (f (with_more more t)) →
       Longer more (g (f t).value (f t).talk).talk.stop (g (f t).value (f t).talk)
       (g (f (with_more more t)).value (f (with_more more t)).talk)
-  chain-longer t w e h = go w e h
+  chain_longer t w e h = go w e h
     where
       r : Got B
       r = g (f t).value (f t).talk
@@ -98,26 +98,26 @@ module _ {A B : Type 0} (more : List ℕ) {f : Act A} {g : A → Act B} (P : A �
       go : (w : Stop) → (f t).talk.stop ≡ w → Longer more w (f t) (f (with_more more t)) → Longer more r.talk.stop r s
       go going q k = subst (λ (u : Got A). Longer more r.talk.stop r (g u.value u.talk)) (sym k) ((second t).longer (f t).talk q)
       go (waits c) q k =
-          subst (λ (x : Stop). Longer more x r s) (sym (halts-as t (waits c) tt q))
-          (subst (λ (l : List Call). Again c l s.talk) (sym (halts-calls t (waits c) tt q)) (again-on c (f t).talk.calls (with_more more t) k))
-      go declined q k = subst (λ (x : Stop). Longer more x r s) (sym (halts-as t declined tt q)) tt
-      go overrun q k = subst (λ (x : Stop). Longer more x r s) (sym (halts-as t overrun tt q)) tt
+          subst (λ (x : Stop). Longer more x r s) (sym (halts_as t (waits c) tt q))
+          (subst (λ (l : List Call). Again c l s.talk) (sym (halts_calls t (waits c) tt q)) (again_on c (f t).talk.calls (with_more more t) k))
+      go declined q k = subst (λ (x : Stop). Longer more x r s) (sym (halts_as t declined tt q)) tt
+      go overrun q k = subst (λ (x : Stop). Longer more x r s) (sym (halts_as t overrun tt q)) tt
 
-  chain-steady : Steady more (λ t. g (f t).value (f t).talk)
-  chain-steady =
+  chain_steady : Steady more (λ t. g (f t).value (f t).talk)
+  chain_steady =
       record {
         sticky = λ t s. let e = F.sticky t s in halts t (subst (λ (u : Talk). Stopped u.stop) (sym e) s) ∙ e;
-        grows = λ t. grown-on (F.grows t) ((second t).grows (f t).talk);
-        longer = λ t q. chain-longer t (f t).talk.stop refl (F.longer t q);
+        grows = λ t. grown_on (F.grows t) ((second t).grows (f t).talk);
+        longer = λ t q. chain_longer t (f t).talk.stop refl (F.longer t q);
       }
 
 module _ {A : Type 0} (more : List ℕ) where
   -- nothing is done
-  idle-steady : (a : A) → Steady more (got a)
-  idle-steady a =
+  idle_steady : (a : A) → Steady more (got a)
+  idle_steady a =
       record {
         sticky = λ t s. refl;
-        grows = λ t. grown-same t.calls;
+        grows = λ t. grown_same t.calls;
         longer = λ t q. subst (λ (s : Stop). Longer more s (got a t) (got a (with_more more t))) (sym q) refl;
       }
 
@@ -127,37 +127,37 @@ module _ (more : List ℕ) (out : Out) where
   abbrev m : List ℕ
   m = bytes_of out
 
-  send-sticky : (s : Stop) (t : Talk) → Stopped s → send_at s m t ≡ t
-  send-sticky going t h = absurd h
-  send-sticky (waits c) t h = refl
-  send-sticky declined t h = refl
-  send-sticky overrun t h = refl
+  send_sticky : (s : Stop) (t : Talk) → Stopped s → send_at s m t ≡ t
+  send_sticky going t h = absurd h
+  send_sticky (waits c) t h = refl
+  send_sticky declined t h = refl
+  send_sticky overrun t h = refl
 
-  send-calls : (s : Stop) (t : Talk) → (send_at s m t).calls ≡ t.calls
-  send-calls going t = at (leb 102 (length t.messages))
+  send_calls : (s : Stop) (t : Talk) → (send_at s m t).calls ≡ t.calls
+  send_calls going t = at (leb 102 (length t.messages))
     where
       at : (b : Bool) → (send_room b m t).calls ≡ t.calls
       at true = refl
       at false = refl
-  send-calls (waits c) t = refl
-  send-calls declined t = refl
-  send-calls overrun t = refl
+  send_calls (waits c) t = refl
+  send_calls declined t = refl
+  send_calls overrun t = refl
 
-  send-longer : (t : Talk) → t.stop ≡ going → (b : Bool) →
+  send_longer : (t : Talk) → t.stop ≡ going → (b : Bool) →
       Longer more (send_room b m t).stop (got (tt {0}) (send_room b m t)) (got tt (send_room b m (with_more more t)))
-  send-longer t q true = tt
-  send-longer t q false =
+  send_longer t q true = tt
+  send_longer t q false =
       subst (λ (s : Stop). Longer more s (got (tt {0}) (send_room false m t)) (got tt (send_room false m (with_more more t)))) (sym q) refl
 
-  send-steady : Steady more (λ t. got (tt {0}) (send out t))
+  send_steady : Steady more (λ t. got (tt {0}) (send out t))
   unfolding send
-  send-steady =
+  send_steady =
       record {
-        sticky = λ t h. send-sticky t.stop t h;
-        grows = λ t. subst (λ (l : List Call). Grown t.calls l) (sym (send-calls t.stop t)) (grown-same t.calls);
+        sticky = λ t h. send_sticky t.stop t h;
+        grows = λ t. subst (λ (l : List Call). Grown t.calls l) (sym (send_calls t.stop t)) (grown_same t.calls);
         longer = λ t q.
             subst (λ (s : Stop). Longer more (send_at s m t).stop (got (tt {0}) (send_at s m t)) (got tt (send_at s m (with_more more t)))) (sym q)
-            (send-longer t q (leb 102 (length t.messages)));
+            (send_longer t q (leb 102 (length t.messages)));
       }
 
 -- ── a call ──
@@ -166,33 +166,33 @@ module _ (x : ℕ) (l : List ℕ) (c : Call) where
   abbrev more : List ℕ
   more = x ∷ l
 
-  ask-halts : (s : Stop) (t : Talk) → Stopped s → ask_at s c t ≡ got no_reply t
-  ask-halts going t h = absurd h
-  ask-halts (waits d) t h = refl
-  ask-halts declined t h = refl
-  ask-halts overrun t h = refl
+  ask_halts : (s : Stop) (t : Talk) → Stopped s → ask_at s c t ≡ got no_reply t
+  ask_halts going t h = absurd h
+  ask_halts (waits d) t h = refl
+  ask_halts declined t h = refl
+  ask_halts overrun t h = refl
 
-  ask-grown : (t : Talk) → Grown t.calls (ask c t).talk.calls
+  ask_grown : (t : Talk) → Grown t.calls (ask c t).talk.calls
   unfolding ask
-  ask-grown t = at t.stop
+  ask_grown t = at t.stop
     where
       fit_at : (b : Bool) → Grown t.calls (ask_fit b c (answer_of t.left c.kind) t).talk.calls
-      fit_at true = grown-same t.calls
+      fit_at true = grown_same t.calls
       fit_at false = record { rest = c ∷ []; whole = refl }
 
       left_at : (b : Bool) → Grown t.calls (ask_left b c t).talk.calls
-      left_at true = grown-same t.calls
+      left_at true = grown_same t.calls
       left_at false = fit_at (is_unfit (answer_of t.left c.kind))
 
-      room-at : (b : Bool) → Grown t.calls (ask_room b c t).talk.calls
-      room-at true = grown-same t.calls
-      room-at false = left_at (eqb (length t.left) 0)
+      room_at_lem : (b : Bool) → Grown t.calls (ask_room b c t).talk.calls
+      room_at_lem true = grown_same t.calls
+      room_at_lem false = left_at (eqb (length t.left) 0)
 
       at : (s : Stop) → Grown t.calls (ask_at s c t).talk.calls
-      at going = room-at (leb 337 (length t.calls))
-      at (waits d) = grown-same t.calls
-      at declined = grown-same t.calls
-      at overrun = grown-same t.calls
+      at going = room_at_lem (leb 337 (length t.calls))
+      at (waits d) = grown_same t.calls
+      at declined = grown_same t.calls
+      at overrun = grown_same t.calls
 
   module _ (t : Talk) (q : t.stop ≡ going) where
     -- an answer that fits is taken from either line
@@ -201,19 +201,19 @@ module _ (x : ℕ) (l : List ℕ) (c : Call) where
     taken f =
         let a = answer_of t.left c.kind in
         let n = item_count a t.left in
-        let fits : 16 + 16 * n ≤ length t.left = answer-there t.left c.kind _ _ refl f refl in
-        let i : item_count a (t.left ++ more) ≡ n = count-as t.left more c.kind f in
+        let fits : 16 + 16 * n ≤ length t.left = answer_there t.left c.kind _ _ refl f refl in
+        let i : item_count a (t.left ++ more) ≡ n = count_as t.left more c.kind f in
         let j : items_of n (t.left ++ more) ≡ items_of n t.left = items-same t.left more n fits in
         let d : drop (16 + 16 * n) (t.left ++ more) ≡ drop (16 + 16 * n) t.left ++ more = drop-append-le (16 + 16 * n) t.left more fits in
         rw (i, j, d)
 
-    fit-longer : (b : Bool) → is_unfit (answer_of t.left c.kind) ≡ b →
+    fit_longer : (b : Bool) → is_unfit (answer_of t.left c.kind) ≡ b →
         Longer more (ask_fit b c (answer_of t.left c.kind) t).talk.stop (ask_fit b c (answer_of t.left c.kind) t)
         (ask_left false c (with_more more t))
-    fit-longer true f = tt
-    fit-longer false f =
+    fit_longer true f = tt
+    fit_longer false f =
         let a = answer_of t.left c.kind in
-        let e : answer_of (t.left ++ more) c.kind ≡ a = answer-same t.left more c.kind f in
+        let e : answer_of (t.left ++ more) c.kind ≡ a = answer_same t.left more c.kind f in
         let g : ask_left false c (with_more more t) ≡ ask_fit false c a (with_more more t) = rw (e, f) in
         subst (λ (s : Stop). Longer more s (ask_fit false c a t) (ask_left false c (with_more more t))) (sym q) (g ∙ taken f)
 
@@ -222,29 +222,29 @@ module _ (x : ℕ) (l : List ℕ) (c : Call) where
     waited true a = inl (refl, refl)
     waited false a = inr (record { rest = []; whole = refl })
 
-    left-longer : (b : Bool) → Longer more (ask_left b c t).talk.stop (ask_left b c t) (ask_left false c (with_more more t))
-    left-longer true = waited (is_unfit (answer_of (t.left ++ more) c.kind)) (answer_of (t.left ++ more) c.kind)
-    left-longer false = fit-longer (is_unfit (answer_of t.left c.kind)) refl
+    left_longer : (b : Bool) → Longer more (ask_left b c t).talk.stop (ask_left b c t) (ask_left false c (with_more more t))
+    left_longer true = waited (is_unfit (answer_of (t.left ++ more) c.kind)) (answer_of (t.left ++ more) c.kind)
+    left_longer false = fit_longer (is_unfit (answer_of t.left c.kind)) refl
 
-    room-longer : (b : Bool) → Longer more (ask_room b c t).talk.stop (ask_room b c t) (ask_room b c (with_more more t))
-    room-longer true = tt
-    room-longer false =
+    room_longer : (b : Bool) → Longer more (ask_room b c t).talk.stop (ask_room b c t) (ask_room b c (with_more more t))
+    room_longer true = tt
+    room_longer false =
         let k : eqb (length (t.left ++ more)) 0 ≡ false = ne_eqb (length (t.left ++ more)) 0 (λ e. omega (arith, length-append t.left more)) in
-        rw k (left-longer (eqb (length t.left) 0))
+        rw k (left_longer (eqb (length t.left) 0))
 
-    ask-longer : Longer more (ask c t).talk.stop (ask c t) (ask c (with_more more t))
+    ask_longer : Longer more (ask c t).talk.stop (ask c t) (ask c (with_more more t))
     unfolding ask
-    ask-longer =
+    ask_longer =
         subst (λ (s : Stop). Longer more (ask_at s c t).talk.stop (ask_at s c t) (ask_at s c (with_more more t))) (sym q)
-        (room-longer (leb 337 (length t.calls)))
+        (room_longer (leb 337 (length t.calls)))
 
-  ask-steady : Steady more (ask c)
+  ask_steady : Steady more (ask c)
   unfolding ask
-  ask-steady =
+  ask_steady =
       record {
-        sticky = λ t h. ap (λ (r : Got Reply). r.talk) (ask-halts t.stop t h);
-        grows = ask-grown;
-        longer = ask-longer;
+        sticky = λ t h. ap (λ (r : Got Reply). r.talk) (ask_halts t.stop t h);
+        grows = ask_grown;
+        longer = ask_longer;
       }
 
 -- ── an open ──
@@ -257,17 +257,17 @@ module _ (x : ℕ) (l : List ℕ) (driver name : ℕ) where
   abbrev noted : Got Reply → Got Bool
   noted r = opened_by (is_done r.value.answer) driver r.talk
 
-  noted-stop : (r : Got Reply) → (noted r).talk.stop ≡ r.talk.stop
+  noted_stop : (r : Got Reply) → (noted r).talk.stop ≡ r.talk.stop
   unfolding opening
-  noted-stop r = at (is_done r.value.answer)
+  noted_stop r = at (is_done r.value.answer)
     where
       at : (b : Bool) → (opened_by b driver r.talk).talk.stop ≡ r.talk.stop
       at true = refl
       at false = refl
 
-  noted-calls : (r : Got Reply) → (noted r).talk.calls ≡ r.talk.calls
+  noted_calls : (r : Got Reply) → (noted r).talk.calls ≡ r.talk.calls
   unfolding opening
-  noted-calls r = at (is_done r.value.answer)
+  noted_calls r = at (is_done r.value.answer)
     where
       at : (b : Bool) → (opened_by b driver r.talk).talk.calls ≡ r.talk.calls
       at true = refl
@@ -282,64 +282,64 @@ module _ (x : ℕ) (l : List ℕ) (driver name : ℕ) where
       at false = refl
 
   noted-again : (c : Call) (before : List Call) (r : Got Reply) → Again c before r.talk → Again c before (noted r).talk
-  noted-again c before r (inl (d, b)) = inl (noted-stop r ∙ d, noted-calls r ∙ b)
-  noted-again c before r (inr s) = inr (record { rest = s.rest; whole = noted-calls r ∙ s.whole })
+  noted-again c before r (inl (d, b)) = inl (noted_stop r ∙ d, noted_calls r ∙ b)
+  noted-again c before r (inr s) = inr (record { rest = s.rest; whole = noted_calls r ∙ s.whole })
 
-  noted-longer : (r s : Got Reply) (w : Stop) → r.talk.stop ≡ w → Longer (x ∷ l) w r s → Longer (x ∷ l) (noted r).talk.stop (noted r) (noted s)
-  noted-longer r s w e h = subst (λ (z : Stop). Longer (x ∷ l) z (noted r) (noted s)) (sym (noted-stop r ∙ e)) (at w h)
+  noted_longer : (r s : Got Reply) (w : Stop) → r.talk.stop ≡ w → Longer (x ∷ l) w r s → Longer (x ∷ l) (noted r).talk.stop (noted r) (noted s)
+  noted_longer r s w e h = subst (λ (z : Stop). Longer (x ∷ l) z (noted r) (noted s)) (sym (noted_stop r ∙ e)) (at w h)
     where
       at : (w : Stop) → Longer (x ∷ l) w r s → Longer (x ∷ l) w (noted r) (noted s)
       at going k = ap (λ (z : Got Reply). noted z) k ∙ noted_more r
-      at (waits c) k = subst (λ (z : List Call). Again c z (noted s).talk) (sym (noted-calls r)) (noted-again c r.talk.calls s k)
+      at (waits c) k = subst (λ (z : List Call). Again c z (noted s).talk) (sym (noted_calls r)) (noted-again c r.talk.calls s k)
       at declined k = tt
       at overrun k = tt
 
-  open_if-steady : (b : Bool) → Steady (x ∷ l) (open_if b driver name)
+  open_if_steady : (b : Bool) → Steady (x ∷ l) (open_if b driver name)
   unfolding next ask
-  open_if-steady true = idle-steady (x ∷ l) true
-  open_if-steady false =
+  open_if_steady true = idle_steady (x ∷ l) true
+  open_if_steady false =
       record {
         -- a call that was not made opens nothing
-        sticky = λ t h. ap (λ (r : Got Reply). (noted r).talk) (ask-halts x l first t.stop t h);
-        grows = λ t. subst (λ (z : List Call). Grown t.calls z) (sym (noted-calls (ask first t))) (ask-grown x l first t);
+        sticky = λ t h. ap (λ (r : Got Reply). (noted r).talk) (ask_halts x l first t.stop t h);
+        grows = λ t. subst (λ (z : List Call). Grown t.calls z) (sym (noted_calls (ask first t))) (ask_grown x l first t);
         longer = λ t q.
-            noted-longer (ask first t) (ask first (with_more (x ∷ l) t)) (ask first t).talk.stop refl (ask-longer x l first t q);
+            noted_longer (ask first t) (ask first (with_more (x ∷ l) t)) (ask first t).talk.stop refl (ask_longer x l first t q);
       }
 
-  open-steady : Steady (x ∷ l) (open_for driver name)
+  open_steady : Steady (x ∷ l) (open_for driver name)
   unfolding open_for is_open
-  open-steady =
+  open_steady =
       record {
-        sticky = λ t h. (open_if-steady (is_open driver t)).sticky t h;
-        grows = λ t. (open_if-steady (is_open driver t)).grows t;
-        longer = λ t q. (open_if-steady (is_open driver t)).longer t q;
+        sticky = λ t h. (open_if_steady (is_open driver t)).sticky t h;
+        grows = λ t. (open_if_steady (is_open driver t)).grows t;
+        longer = λ t q. (open_if_steady (is_open driver t)).longer t q;
       }
 
 -- ── a use, and every act ──
 
 module _ (x : ℕ) (l : List ℕ) where
-  ask_if-steady : (b : Bool) (c : Call) → Steady (x ∷ l) (ask_if b c)
-  ask_if-steady true c = ask-steady x l c
-  ask_if-steady false c = idle-steady (x ∷ l) no_reply
+  ask_if_steady : (b : Bool) (c : Call) → Steady (x ∷ l) (ask_if b c)
+  ask_if_steady true c = ask_steady x l c
+  ask_if_steady false c = idle_steady (x ∷ l) no_reply
 
-  use-steady : (c : Call) → Steady (x ∷ l) (use_call c)
+  use_steady : (c : Call) → Steady (x ∷ l) (use_call c)
   unfolding use_call next
-  use-steady c =
-      chain-steady (x ∷ l) {f = open_for c.driver c.name} {g = λ ok. ask_if ok c} (λ b. Unit {0}) (open-steady x l c.driver c.name) (λ t. tt)
-      (λ b p. ask_if-steady b c)
+  use_steady c =
+      chain_steady (x ∷ l) {f = open_for c.driver c.name} {g = λ ok. ask_if ok c} (λ b. Unit {0}) (open_steady x l c.driver c.name) (λ t. tt)
+      (λ b p. ask_if_steady b c)
 
-  pub steady-rules : Rules Any
-  steady-rules =
+  pub steady_rules : Rules Any
+  steady_rules =
       record {
         takes = λ m c f. Steady (x ∷ l) f;
-        idle = λ a. idle-steady (x ∷ l) a;
+        idle = λ a. idle_steady (x ∷ l) a;
         wider = λ p q h. h;
-        chain = λ {A} {B} {m} {c} {n} {d} {f} {g} P h v k. chain-steady (x ∷ l) {f = f} {g = g} P h v k;
-        say = λ out. send-steady (x ∷ l) out;
-        opens = λ driver name d. open-steady x l driver name;
-        uses = λ c d. use-steady c;
+        chain = λ {A} {B} {m} {c} {n} {d} {f} {g} P h v k. chain_steady (x ∷ l) {f = f} {g = g} P h v k;
+        say = λ out. send_steady (x ∷ l) out;
+        opens = λ driver name d. open_steady x l driver name;
+        uses = λ c d. use_steady c;
       }
 
-  pub steady_by : {A : Type 0} {m c : ℕ} {f : Act A} → Takes steady-rules m c f → Steady (x ∷ l) f
-  unfolding steady-rules
+  pub steady_by : {A : Type 0} {m c : ℕ} {f : Act A} → Takes steady_rules m c f → Steady (x ∷ l) f
+  unfolding steady_rules
   steady_by h = h.pays

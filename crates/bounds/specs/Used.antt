@@ -3,13 +3,13 @@ use Rattle.std.specs.Prelude.{ℕ, ◌+◌, ◌*◌, ◌≤◌, ◌≡◌, refl,
 use Rattle.std.proofs.Common.{subst, arith, div-mul-le_self, length-drop}
 use Rattle.lookup.specs.View.{View}
 use Rattle.drivers.specs.Answers.{answer_of, item_count}
-use Rattle.drivers.specs.AnswersLaws.{answer-there}
+use Rattle.drivers.specs.AnswersLaws.{answer_there}
 use Rattle.drivers.specs.Talk.{Stop, going, waits, declined, overrun, Talk, Got, start, opening}
 use Rattle.drivers.specs.declared.Call.{Call}
 use Rattle.event.specs.declared.Timed.{Timed}
 use Rattle.definition.specs.Step.{Kept, Left, Ended, done, finish, step_if, refusal, act, step}
 use Rattle.bounds.specs.Bounds.{UsedOf}
-use Rattle.bounds.specs.Keeping.{Keeps, act-keeps}
+use Rattle.bounds.specs.Keeping.{Keeps, act_keeps}
 
 -- what is used and what is left is what was offered
 abbrev Fair : ℕ → Talk → Type 0
@@ -21,7 +21,7 @@ fair all =
     record {
       stops = λ s t h. h;
       takes = λ c t f h.
-          omega (arith, answer-there t.left c.kind _ _ refl f refl, length-drop (16 + 16 * item_count (answer_of t.left c.kind) t.left) t.left, h);
+          omega (arith, answer_there t.left c.kind _ _ refl f refl, length-drop (16 + 16 * item_count (answer_of t.left c.kind) t.left) t.left, h);
       opens = λ driver t h. h;
       says = λ out t h. h;
     }
@@ -39,7 +39,7 @@ step-used v k e answers = at (eqb (refusal e.what v k e.time) 0)
     at : (b : Bool) → UsedOf (length answers) (step_if b (refusal e.what v k e.time) e v k answers).ended
     at true =
         let r = act e.what v k e.time (start answers k.opened) in
-        let h : r.talk.used + length r.talk.left ≡ length answers = act-keeps (Fair (length answers)) (fair (length answers)) v k e answers (omega arith) in
+        let h : r.talk.used + length r.talk.left ≡ length answers = act_keeps (Fair (length answers)) (fair (length answers)) v k e answers (omega arith) in
         finish-used r.talk.stop v k r (length answers) (omega arith)
     at false = tt
 

@@ -11,8 +11,8 @@ use Rattle.std.proofs.Math.ListN.{length}
 use borrow.Author.Tests.{leb-false, eq-eqb}
 use Rattle.base.specs.Choice.{pick}
 use Rattle.base.specs.Keyed.{find, change, all_of, no_twice}
-use Rattle.base.specs.KeyedLaws.{change-long}
-use Rattle.base.specs.Pigeon.{left-of, right_of}
+use Rattle.base.specs.KeyedLaws.{change_long}
+use Rattle.base.specs.Pigeon.{left_of_lem, right_of}
 use Rattle.base.specs.declared.Place.{Place}
 use Rattle.base.specs.declared.Place.TheVariants as place
 use Rattle.profile.specs.Profile.{byte_at}
@@ -24,7 +24,7 @@ use Rattle.lookup.specs.declared.Found.{Found}
 use Rattle.lookup.specs.declared.Found.TheVariants as found
 use Rattle.drivers.specs.Talk.{Talk, next}
 use Rattle.session.specs.Session.{Turn, is_marked, last_move, turn, add_to, first_turn, is_dest, same_turn}
-use Rattle.session.specs.SessionLaws.{WellLine, line-empty, line-place, turn-once}
+use Rattle.session.specs.SessionLaws.{WellLine, line_empty, line_place, turn_once}
 use Rattle.definition.specs.Rig.{Lives, Rig, rig_of, destination, encoder_dest}
 use Rattle.definition.specs.Levels.{read}
 use Rattle.definition.specs.Faders.{Desk, is_held, key_of, hold_move, take_move, moved_if, fader_if, fader_to, fader, in_range, declined_by, turn_to, encoder, refusal_to, turn_refusal, drained}
@@ -44,20 +44,20 @@ pub record WellTurns (p : List ℕ) (l : List Turn) : Type 0 where
 
 -- a list in which one is changed, or that has one more
 module _ {A : Type 0} (f : A → Bool) (g : A → A) (y : A) where
-  change-found : (l : List A) (z : A) → find f l ≡ some z → length (change f g y l) ≤ length l
+  change_found : (l : List A) (z : A) → find f l ≡ some z → length (change f g y l) ≤ length l
   unfolding change find
-  change-found [] z e = absurd (let q : ◌≡◌ {A = ℕ} 0 1 = cc in omega arith)
-  change-found (x ∷ l) z e = go (f x) e (change-found l z)
+  change_found [] z e = absurd (let q : ◌≡◌ {A = ℕ} 0 1 = cc in omega arith)
+  change_found (x ∷ l) z e = go (f x) e (change_found l z)
     where
       go : (b : Bool) → pick b (some x) (find f l) ≡ some z → (find f l ≡ some z → length (change f g y l) ≤ length l) →
           length (pick b (g x ∷ l) (x ∷ change f g y l)) ≤ suc (length l)
       go true q k = omega arith
       go false q k = omega (arith, k q)
 
-  change-each : (P : A → Type 0) (l : List A) → ((x : A) → P x → P (g x)) → P y → Each P l → Each P (change f g y l)
+  change_each : (P : A → Type 0) (l : List A) → ((x : A) → P x → P (g x)) → P y → Each P l → Each P (change f g y l)
   unfolding change
-  change-each P [] i j h = one_more j no_more
-  change-each P (x ∷ l) i j (one_more d h) = go (f x) (change-each P l i j h)
+  change_each P [] i j h = one_more j no_more
+  change_each P (x ∷ l) i j (one_more d h) = go (f x) (change_each P l i j h)
     where
       go : (b : Bool) → Each P (change f g y l) → Each P (pick b (g x ∷ l) (x ∷ change f g y l))
       go true k = one_more (i x d) h
@@ -71,7 +71,7 @@ module _ {A : Type 0} (f : A → Bool) (g : A → A) (y : A) where
   change-all : (t : A → Bool) (l : List A) → all_of t l ≡ true → Passes t (find f l) → all_of t (change f g y l) ≡ true
   unfolding change find all_of
   change-all t [] h k = rw k
-  change-all t (x ∷ l) h k = go (f x) k (left-of (t x) (all_of t l) h) (right_of (t x) (all_of t l) h) (change-all t l (right_of (t x) (all_of t l) h))
+  change-all t (x ∷ l) h k = go (f x) k (left_of_lem (t x) (all_of t l) h) (right_of (t x) (all_of t l) h) (change-all t l (right_of (t x) (all_of t l) h))
     where
       go : (b : Bool) → Passes t (pick b (some x) (find f l)) → t x ≡ true → all_of t l ≡ true → (Passes t (find f l) → all_of t (change f g y l) ≡ true) →
           all_of t (pick b (g x ∷ l) (x ∷ change f g y l)) ≡ true
@@ -80,31 +80,31 @@ module _ {A : Type 0} (f : A → Bool) (g : A → A) (y : A) where
 
 -- a turn that is not declined
 module _ (p : List ℕ) (e : Destination) (n : ℤ) (l : List Turn) (h : WellTurns p l) where
-  turn-few : (o : Option Turn) → find (is_dest e) l ≡ o → declined_by o n l ≡ 0 → length (turn e n l) ≤ 136
+  turn_few : (o : Option Turn) → find (is_dest e) l ≡ o → declined_by o n l ≡ 0 → length (turn e n l) ≤ 136
   unfolding turn
-  turn-few (some z) q r = omega (arith, h.few, change-found (is_dest e) (add_to n) (first_turn e n) l z q)
-  turn-few none q r = go (leb 136 (length l)) refl r
+  turn_few (some z) q r = omega (arith, h.few, change_found (is_dest e) (add_to n) (first_turn e n) l z q)
+  turn_few none q r = go (leb 136 (length l)) refl r
     where
       go : (b : Bool) → leb 136 (length l) ≡ b → pick {A = ℕ} b 13 0 ≡ 0 → length (change (is_dest e) (add_to n) (first_turn e n) l) ≤ 136
       go true i j = absurd (omega arith)
-      go false i j = omega (arith, leb-false 136 (length l) i, change-long (is_dest e) (add_to n) (first_turn e n) l)
+      go false i j = omega (arith, leb-false 136 (length l) i, change_long (is_dest e) (add_to n) (first_turn e n) l)
 
-  in-range : (b : Bool) → pick {A = ℕ} b 0 12 ≡ 0 → b ≡ true
-  in-range true q = refl
-  in-range false q = absurd (omega arith)
+  in_range_lem : (b : Bool) → pick {A = ℕ} b 0 12 ≡ 0 → b ≡ true
+  in_range_lem true q = refl
+  in_range_lem false q = absurd (omega arith)
 
-  sum-passes : (o : Option Turn) → in_range n ≡ true → declined_by o n l ≡ 0 → Passes (is_dest e) (add_to n) (first_turn e n) good_turn o
-  sum-passes (some z) low r = in-range (in_range (z.sum +ℤ n)) r
-  sum-passes none low r = low
+  sum_passes : (o : Option Turn) → in_range n ≡ true → declined_by o n l ≡ 0 → Passes (is_dest e) (add_to n) (first_turn e n) good_turn o
+  sum_passes (some z) low r = in_range_lem (in_range (z.sum +ℤ n)) r
+  sum_passes none low r = low
 
-  turn-well : Wired p e → in_range n ≡ true → declined_by (find (is_dest e) l) n l ≡ 0 → WellTurns p (turn e n l)
+  turn_well : Wired p e → in_range n ≡ true → declined_by (find (is_dest e) l) n l ≡ 0 → WellTurns p (turn e n l)
   unfolding turn
-  turn-well w low r =
+  turn_well w low r =
       record {
-        few = turn-few (find (is_dest e) l) refl r;
-        wired = change-each (is_dest e) (add_to n) (first_turn e n) (WiredTurn p) l (λ x i. i) w h.wired;
-        sums = change-all (is_dest e) (add_to n) (first_turn e n) good_turn l h.sums (sum-passes (find (is_dest e) l) low r);
-        destinations = turn-once l e n h.destinations;
+        few = turn_few (find (is_dest e) l) refl r;
+        wired = change_each (is_dest e) (add_to n) (first_turn e n) (WiredTurn p) l (λ x i. i) w h.wired;
+        sums = change-all (is_dest e) (add_to n) (first_turn e n) good_turn l h.sums (sum_passes (find (is_dest e) l) low r);
+        destinations = turn_once l e n h.destinations;
       }
 
 -- ── what an encoder is wired to ──
@@ -113,9 +113,9 @@ abbrev WiredTo : List ℕ → Found → Type 0
 WiredTo p (found.To d) = Wired p d
 WiredTo p found.Nothing = Unit {0}
 
-control-wired : (p : List ℕ) (part n : ℕ) → WiredTo p (control_of p 3 part n)
+control_wired : (p : List ℕ) (part n : ℕ) → WiredTo p (control_of p 3 part n)
 unfolding control_of
-control-wired p part n = go (entry p 3 part n) refl
+control_wired p part n = go (entry p 3 part n) refl
   where
     go : (f : Place) → entry p 3 part n ≡ f → WiredTo p (found_at p f)
     go (place.At k) e =
@@ -123,13 +123,13 @@ control-wired p part n = go (entry p 3 part n) refl
         record { at = k; wires = record { in_file = w.in_file; encoder = eq-eqb (byte_at p k 0) 3 w.kind_is; to = refl } }
     go place.Nothing e = tt
 
-precede-wired : (p : List ℕ) (f g : Found) → WiredTo p f → WiredTo p g → WiredTo p (precede f g)
-precede-wired p (found.To d) g h k = h
-precede-wired p found.Nothing g h k = k
+precede_wired : (p : List ℕ) (f g : Found) → WiredTo p f → WiredTo p g → WiredTo p (precede f g)
+precede_wired p (found.To d) g h k = h
+precede_wired p found.Nothing g h k = k
 
-turn_to-well : (p : List ℕ) (f : Found) (n : ℤ) (l : List Turn) → WiredTo p f → in_range n ≡ true → refusal_to f n l ≡ 0 → WellTurns p l → WellTurns p (turn_to f n l)
-turn_to-well p (found.To e) n l w low r h = turn-well p e n l h w low r
-turn_to-well p found.Nothing n l w low r h = h
+turn_to_well : (p : List ℕ) (f : Found) (n : ℤ) (l : List Turn) → WiredTo p f → in_range n ≡ true → refusal_to f n l ≡ 0 → WellTurns p l → WellTurns p (turn_to f n l)
+turn_to_well p (found.To e) n l w low r h = turn_well p e n l h w low r
+turn_to_well p found.Nothing n l w low r h = h
 
 -- ── the line, and both ──
 
@@ -139,51 +139,51 @@ pub record WellDesk (p : List ℕ) (d : Desk) : Type 0 where
 
 module _ (p : List ℕ) where
   module _ (k ch : ℕ) (x : Float) (d : Desk) (h : WellDesk p d) (low : ch < 16) where
-    hold-well : WellDesk p (hold_move k x d)
+    hold_well : WellDesk p (hold_move k x d)
     unfolding hold_move
-    hold-well = record { line = h.line; turns = h.turns }
+    hold_well = record { line = h.line; turns = h.turns }
 
-    take-well : WellDesk p (take_move k ch x d)
+    take_well : WellDesk p (take_move k ch x d)
     unfolding take_move
-    take-well = record { line = line-place d.line ch x h.line low; turns = h.turns }
+    take_well = record { line = line_place d.line ch x h.line low; turns = h.turns }
 
-    moved-well : (b : Bool) → WellDesk p (moved_if b k ch x d)
-    moved-well true = hold-well
-    moved-well false = take-well
+    moved_well : (b : Bool) → WellDesk p (moved_if b k ch x d)
+    moved_well true = hold_well
+    moved_well false = take_well
 
-    fader_if-well : (b : Bool) (e : Destination) (t : Talk) → WellDesk p (fader_if b e k ch x d t).value
+    fader_if_well : (b : Bool) (e : Destination) (t : Talk) → WellDesk p (fader_if b e k ch x d t).value
     unfolding next
-    fader_if-well true e t = moved-well (is_held (read e t).value (last_move k d.moves) x)
-    fader_if-well false e t = take-well
+    fader_if_well true e t = moved_well (is_held (read e t).value (last_move k d.moves) x)
+    fader_if_well false e t = take_well
 
-    fader_to-well : (f : Found) (t : Talk) → WellDesk p (fader_to f k ch x d t).value
-    fader_to-well (found.To e) t = fader_if-well (e.takeover && not (is_marked k d.marks)) e t
-    fader_to-well found.Nothing t = h
+    fader_to_well : (f : Found) (t : Talk) → WellDesk p (fader_to f k ch x d t).value
+    fader_to_well (found.To e) t = fader_if_well (e.takeover && not (is_marked k d.marks)) e t
+    fader_to_well found.Nothing t = h
 
-  pub fader-well : (r : Rig) (ch : ℕ) (x : Float) (d : Desk) (t : Talk) → WellDesk p d → ch < 16 → WellDesk p (fader r ch x d t).value
+  pub fader_well : (r : Rig) (ch : ℕ) (x : Float) (d : Desk) (t : Talk) → WellDesk p d → ch < 16 → WellDesk p (fader r ch x d t).value
   unfolding fader
-  fader-well r ch x d t h low = fader_to-well (key_of r ch) ch x d h low (destination r (ch + 1)) t
+  fader_well r ch x d t h low = fader_to_well (key_of r ch) ch x d h low (destination r (ch + 1)) t
 
-  pub encoder-well : (lives : Lives) (bank ch : ℕ) (n : ℤ) (d : Desk) → WellDesk p d → in_range n ≡ true →
+  pub encoder_well : (lives : Lives) (bank ch : ℕ) (n : ℤ) (d : Desk) → WellDesk p d → in_range n ≡ true →
       turn_refusal (rig_of (view_of p) lives bank) ch n d.turns ≡ 0 → WellDesk p (encoder (rig_of (view_of p) lives bank) ch n d)
   unfolding encoder turn_refusal encoder_dest
-  encoder-well lives bank ch n d h low r =
+  encoder_well lives bank ch n d h low r =
       let f = encoder_dest (rig_of (view_of p) lives bank) (ch + 1) in
-      let w = precede-wired p (control_of p 3 255 (ch + 1)) (control_of p 3 bank (ch + 1)) (control-wired p 255 (ch + 1)) (control-wired p bank (ch + 1)) in
-      record { line = h.line; turns = turn_to-well p f n d.turns w low r h.turns }
+      let w = precede_wired p (control_of p 3 255 (ch + 1)) (control_of p 3 bank (ch + 1)) (control_wired p 255 (ch + 1)) (control_wired p bank (ch + 1)) in
+      record { line = h.line; turns = turn_to_well p f n d.turns w low r h.turns }
 
-  pub unmarked-well : (b : Bool) (d : Desk) → WellDesk p d → WellDesk p (unmarked b d)
-  unmarked-well true d h = record { line = h.line; turns = h.turns }
-  unmarked-well false d h = h
+  pub unmarked_well : (b : Bool) (d : Desk) → WellDesk p d → WellDesk p (unmarked b d)
+  unmarked_well true d h = record { line = h.line; turns = h.turns }
+  unmarked_well false d h = h
 
-  pub unmarked_at-well : (b : Bool) (bank : ℕ) (d : Desk) → WellDesk p d → WellDesk p (unmarked_at b bank d)
-  unmarked_at-well true bank d h = record { line = h.line; turns = h.turns }
-  unmarked_at-well false bank d h = h
+  pub unmarked_at_well : (b : Bool) (bank : ℕ) (d : Desk) → WellDesk p d → WellDesk p (unmarked_at b bank d)
+  unmarked_at_well true bank d h = record { line = h.line; turns = h.turns }
+  unmarked_at_well false bank d h = h
 
-  pub no-turns : WellTurns p []
+  pub no_turns_lem : WellTurns p []
   unfolding all_of no_twice
-  no-turns = record { few = omega arith; wired = no_more; sums = refl; destinations = refl }
+  no_turns_lem = record { few = omega arith; wired = no_more; sums = refl; destinations = refl }
 
-  pub drained-well : (d : Desk) → WellDesk p (drained d)
+  pub drained_well : (d : Desk) → WellDesk p (drained d)
   unfolding drained
-  drained-well d = record { line = line-empty; turns = no-turns }
+  drained_well d = record { line = line_empty; turns = no_turns_lem }

@@ -58,44 +58,44 @@ Shaped l = shaped_flash l.flash ≡ true
 abbrev pub Gives : Act Lamps → Type 0
 Gives f = (t : Talk) → Shaped (f t).value
 
-no-flash : shaped_flash no_flash ≡ true
+no_flash_lem : shaped_flash no_flash ≡ true
 unfolding shaped_flash no_flash
-no-flash = refl
+no_flash_lem = refl
 
-show-gives : (b : Bool) (now : Float) (n base : ℕ) (l : Lamps) → leb 64 n ≡ b → base_ok base ≡ true → Gives (show_number b now n base l)
+show_gives : (b : Bool) (now : Float) (n base : ℕ) (l : Lamps) → leb 64 n ≡ b → base_ok base ≡ true → Gives (show_number b now n base l)
 unfolding flashing
-show-gives true now n base l e ok t = no-flash
-show-gives false now n base l e ok t =
+show_gives true now n base l e ok t = no_flash_lem
+show_gives false now n base l e ok t =
     playing-shaped (flash_of now n base)
     (record { row = omega (arith, leb-false 64 n e); column = omega arith; base = ok; begun = omega arith; most = omega arith })
 
-pub number-gives : (r : Rig) (s : List ℕ) (m : Moves) (now : Float) (n base : ℕ) (l : Lamps) → base_ok base ≡ true → Gives (flash_number r s m now n base l)
+pub number_gives : (r : Rig) (s : List ℕ) (m : Moves) (now : Float) (n base : ℕ) (l : Lamps) → base_ok base ≡ true → Gives (flash_number r s m now n base l)
 unfolding flash_number
-number-gives r s m now n base l ok t = show-gives (leb 64 n) now n base l refl ok _
+number_gives r s m now n base l ok t = show_gives (leb 64 n) now n base l refl ok _
 
-pub bank-gives : (r : Rig) (s : List ℕ) (m : Moves) (now : Float) (l : Lamps) → Gives (flash_bank r s m now l)
+pub bank_gives : (r : Rig) (s : List ℕ) (m : Moves) (now : Float) (l : Lamps) → Gives (flash_bank r s m now l)
 unfolding flash_bank
-bank-gives r s m now l = number-gives r s m now r.here.bank 0 l refl
+bank_gives r s m now l = number_gives r s m now r.here.bank 0 l refl
 
 module _ (r : Rig) (s : List ℕ) (m : Moves) (now : Float) (l : Lamps) (h : Shaped l) where
-  end-gives : (b : Bool) (k : Lamps) → Shaped k → Gives (end_if b r s m k)
+  end_gives : (b : Bool) (k : Lamps) → Shaped k → Gives (end_if b r s m k)
   unfolding flashing
-  end-gives true k i t = no-flash
-  end-gives false k i t = i
+  end_gives true k i t = no_flash_lem
+  end_gives false k i t = i
 
-  sent-shaped : (due : ℕ) → l.flash.on ≡ true → due ≤ 6 → shaped_flash (sent_up_to due l.flash) ≡ true
-  sent-shaped due e d =
+  sent_shaped : (due : ℕ) → l.flash.on ≡ true → due ≤ 6 → shaped_flash (sent_up_to due l.flash) ≡ true
+  sent_shaped due e d =
       let w = shaped-playing l.flash h e in
       playing-shaped (sent_up_to due l.flash)
       (record { row = w.row; column = w.column; base = w.base; begun = omega (arith, w.begun); most = omega (arith, w.most, d) })
 
-  tick_if-gives : (b : Bool) → l.flash.on ≡ b → Gives (tick_if b r s m now l)
+  tick_if_gives : (b : Bool) → l.flash.on ≡ b → Gives (tick_if b r s m now l)
   unfolding flashing
-  tick_if-gives true e t =
+  tick_if_gives true e t =
       let due = due_of now l.flash.start in
-      end-gives (flash_over now l.flash.start) (flashing (sent_up_to due l.flash) l) (sent-shaped due e (due-most now l.flash.start)) _
-  tick_if-gives false e t = h
+      end_gives (flash_over now l.flash.start) (flashing (sent_up_to due l.flash) l) (sent_shaped due e (due-most now l.flash.start)) _
+  tick_if_gives false e t = h
 
   pub tick_gives : Gives (tick_flash r s m now l)
   unfolding tick_flash
-  tick_gives = tick_if-gives l.flash.on refl
+  tick_gives = tick_if_gives l.flash.on refl

@@ -11,7 +11,7 @@ use Rattle.base.specs.Range.{all}
 use Rattle.base.specs.RangeLaws.{and_left, and_right, all_none}
 use Rattle.base.specs.Words.{le16}
 use Rattle.base.specs.Keyed.{any_of, all_of, no_twice}
-use Rattle.base.specs.Pigeon.{left-of, right_of, all_so, all_append, once-append}
+use Rattle.base.specs.Pigeon.{left_of_lem, right_of, all_so, all_append, once_append}
 use Rattle.drivers.specs.Answers.{count_at, item_at, items_of, item_fits, live_fits, list_if, live_list, to_live, answer_to, answer_of, item_count, is_unfit, is_list}
 use Rattle.drivers.specs.Talk.{Stop, going, waits, declined, overrun, Talk, next, Reply, ask_fit, ask_left, ask_room, ask_at, ask, ask_if as askWhen, open_for, use_call, plain_call, live_of}
 use Rattle.drivers.specs.declared.Answer.{Answer}
@@ -19,7 +19,7 @@ use Rattle.drivers.specs.declared.Answer.TheVariants as answer
 use Rattle.drivers.specs.declared.Call.{Call}
 use Rattle.drivers.specs.declared.LiveFader.{LiveFader}
 use Rattle.session.specs.Session.{strips_or}
-use Rattle.session.specs.SessionLaws.{same_fader, WellStrips, strips-well}
+use Rattle.session.specs.SessionLaws.{same_fader, WellStrips, strips_well}
 use Rattle.session.specs.declared.Lamps.{Lamps}
 use Rattle.session.specs.declared.Strip.{Strip}
 use Rattle.definition.specs.Rig.{Lives, Rig}
@@ -35,7 +35,7 @@ below_free : (x : LiveFader) (l : List LiveFader) → all_of (below x.number) l 
 unfolding all_of any_of
 below_free x [] h = refl
 below_free x (y ∷ l) h =
-    let a : y.number < x.number = ltb-true _ _ (left-of (below x.number y) (all_of (below x.number) l) h) in
+    let a : y.number < x.number = ltb-true _ _ (left_of_lem (below x.number y) (all_of (below x.number) l) h) in
     rw (ne_eqb y.number x.number (λ q. omega (arith, a, q))) (below_free x l (right_of (below x.number y) (all_of (below x.number) l) h))
 
 below_more : (m n : ℕ) (l : List LiveFader) → m ≤ n → all_of (below m) l ≡ true → all_of (below n) l ≡ true
@@ -53,9 +53,9 @@ module _ (part : List ℕ) where
   LastBelow zero m = Unit {0}
   LastBelow (suc i) m = number_at i < m
 
-  fits-rises : (n : ℕ) → live_fits part n ≡ true → LastBelow n (number_at n)
-  fits-rises zero h = tt
-  fits-rises (suc i) h =
+  fits_rises : (n : ℕ) → live_fits part n ≡ true → LastBelow n (number_at n)
+  fits_rises zero h = tt
+  fits_rises (suc i) h =
       let n = suc i in
       let c = last_of (item_fits part n) (not (eqb (le16 part (16 * n + 20)) 65535)) (not (eqb (le16 part (16 * n + 22)) 65535)) (eqb n 0 || ltb (get_or part (16 * n + 1) 0) (number_at n)) h in
       let q : get_or part (16 * n + 1) 0 ≡ number_at i = ap (λ (k : ℕ). get_or part k 0) (omega arith) in
@@ -67,17 +67,17 @@ module _ (part : List ℕ) where
   items-below zero m h b = refl
   items-below (suc n) m h b =
       let f = and_right (all n (live_fits part)) (live_fits part n) h in
-      let i = items-below n (number_at n) (and_left (all n (live_fits part)) (live_fits part n) h) (fits-rises n f) in
+      let i = items-below n (number_at n) (and_left (all n (live_fits part)) (live_fits part n) h) (fits_rises n f) in
       all_append (below m) (items_of n part) (item_at part n ∷ []) (below_more (number_at n) m (items_of n part) (omega (arith, b)) i) (rw (lt-ltb (number_at n) m b))
 
-  items-once : (n : ℕ) → all n (live_fits part) ≡ true → no_twice same_fader (items_of n part) ≡ true
+  items_once : (n : ℕ) → all n (live_fits part) ≡ true → no_twice same_fader (items_of n part) ≡ true
   unfolding all items_of no_twice
-  items-once zero h = refl
-  items-once (suc n) h =
+  items_once zero h = refl
+  items_once (suc n) h =
       let f = and_right (all n (live_fits part)) (live_fits part n) h in
       let g = and_left (all n (live_fits part)) (live_fits part n) h in
-      once-append same_fader (items_of n part) (item_at part n) (items-once n g)
-      (below_free (item_at part n) (items_of n part) (items-below n (number_at n) g (fits-rises n f)))
+      once_append same_fader (items_of n part) (item_at part n) (items_once n g)
+      (below_free (item_at part n) (items_of n part) (items-below n (number_at n) g (fits_rises n f)))
 
   -- ── the answer to `live` ──
 
@@ -91,9 +91,9 @@ module _ (part : List ℕ) where
   unfit : Listed answer.Unfit
   unfit e = absurd (false≢true e)
 
-  live-listed : (k : ℕ) → Listed (to_live k part)
+  live_listed : (k : ℕ) → Listed (to_live k part)
   unfolding to_live live_list
-  live-listed k =
+  live_listed k =
       either (eqb k 6) (list_if live_fits 32 part) answer.Unfit
       (either (ltb 32 (count_at part)) answer.Unfit _ unfit
       (either (ltb (count_at part) _) _ answer.Unfit (go (all (count_at part) (live_fits part)) refl) unfit)) unfit
@@ -102,92 +102,92 @@ module _ (part : List ℕ) where
       go true e q = e
       go false e q = absurd (false≢true q)
 
-  answer-listed : Listed (answer_of part 9)
+  answer_listed : Listed (answer_of part 9)
   unfolding answer_of
-  answer-listed =
+  answer_listed =
       either (ltb (length part) 16) answer.Unfit _ unfit
-      (either (eqb (get_or part 0 0) 0) answer.Refused (answer_to 9 (get_or part 0 0) part) (λ e. absurd (false≢true e)) (live-listed (get_or part 0 0)))
+      (either (eqb (get_or part 0 0) 0) answer.Refused (answer_to 9 (get_or part 0 0) part) (λ e. absurd (false≢true e)) (live_listed (get_or part 0 0)))
 
-  answer-once : no_twice same_fader (items_of (item_count (answer_of part 9) part) part) ≡ true
+  answer_once : no_twice same_fader (items_of (item_count (answer_of part 9) part) part) ≡ true
   unfolding item_count
-  answer-once = go (is_list (answer_of part 9)) refl
+  answer_once = go (is_list (answer_of part 9)) refl
     where
       go : (b : Bool) → is_list (answer_of part 9) ≡ b → no_twice same_fader (items_of (pick b (count_at part) 0) part) ≡ true
-      go true e = items-once (count_at part) (answer-listed e)
-      go false e = items-once 0 (all_none (live_fits part))
+      go true e = items_once (count_at part) (answer_listed e)
+      go false e = items_once 0 (all_none (live_fits part))
 
 abbrev Once : Reply → Type 0
 Once r = no_twice same_fader r.items ≡ true
 
-none-once : no_twice same_fader [] ≡ true
+none_once : no_twice same_fader [] ≡ true
 unfolding no_twice
-none-once = refl
+none_once = refl
 
 module _ (driver which : ℕ) (t : Talk) where
   abbrev call : Call
   call = plain_call 9 driver 0 which
 
-  fit-once : (b : Bool) → Once (ask_fit b call (answer_of t.left 9) t).value
-  fit-once true = none-once
-  fit-once false = answer-once t.left
+  fit_once : (b : Bool) → Once (ask_fit b call (answer_of t.left 9) t).value
+  fit_once true = none_once
+  fit_once false = answer_once t.left
 
-  left-once : (b : Bool) → Once (ask_left b call t).value
+  left_once : (b : Bool) → Once (ask_left b call t).value
   unfolding plain_call
-  left-once true = none-once
-  left-once false = fit-once (is_unfit (answer_of t.left 9))
+  left_once true = none_once
+  left_once false = fit_once (is_unfit (answer_of t.left 9))
 
-  room-once : (b : Bool) → Once (ask_room b call t).value
-  room-once true = none-once
-  room-once false = left-once (eqb (length t.left) 0)
+  room_once : (b : Bool) → Once (ask_room b call t).value
+  room_once true = none_once
+  room_once false = left_once (eqb (length t.left) 0)
 
   at_once : (s : Stop) → Once (ask_at s call t).value
-  at_once going = room-once (leb 337 (length t.calls))
-  at_once (waits d) = none-once
-  at_once declined = none-once
-  at_once overrun = none-once
+  at_once going = room_once (leb 337 (length t.calls))
+  at_once (waits d) = none_once
+  at_once declined = none_once
+  at_once overrun = none_once
 
-  when-once : (b : Bool) → Once (askWhen b call t).value
+  when_once : (b : Bool) → Once (askWhen b call t).value
   unfolding ask
-  when-once true = at_once t.stop
-  when-once false = none-once
+  when_once true = at_once t.stop
+  when_once false = none_once
 
-live-once : (driver which : ℕ) (t : Talk) → no_twice same_fader (live_of driver which t).value.list ≡ true
+live_once : (driver which : ℕ) (t : Talk) → no_twice same_fader (live_of driver which t).value.list ≡ true
 unfolding live_of use_call next
-live-once driver which t =
+live_once driver which t =
     let c = plain_call 9 driver 0 which in
     let o = open_for c.driver c.name t in
-    when-once driver which o.talk o.value
+    when_once driver which o.talk o.value
 
 -- ── what a tick leaves ──
 
 module _ (r : Rig) (own : eqb r.here.part.device 65535 ≡ false → IsDriver r.here.part.device) (mine : WellStrips r.here.strips) where
-  change-well : (b : Bool) (l : List Strip) (x : Lamps) (s : List ℕ) (t : Talk) → WellStrips l → WellStrips (change_if b l r x s t).value.strips
-  change-well true l x s t h = mine
-  change-well false l x s t h = h
+  change_well : (b : Bool) (l : List Strip) (x : Lamps) (s : List ℕ) (t : Talk) → WellStrips l → WellStrips (change_if b l r x s t).value.strips
+  change_well true l x s t h = mine
+  change_well false l x s t h = h
 
-  ask-well : (a b : Bool) (known : Option (List Strip)) (x : Lamps) (s : List ℕ) (t : Talk) → (b ≡ false → IsDriver r.here.part.device) →
+  ask_well : (a b : Bool) (known : Option (List Strip)) (x : Lamps) (s : List ℕ) (t : Talk) → (b ≡ false → IsDriver r.here.part.device) →
       WellStrips (ask_if (a || b) known r x s t).value.strips
   unfolding next
-  ask-well true b known x s t h = mine
-  ask-well false true known x s t h = mine
-  ask-well false false known x s t h =
+  ask_well true b known x s t h = mine
+  ask_well false true known x s t h = mine
+  ask_well false false known x s t h =
       let d = r.here.part.device in
       let u = live_of d r.here.part.live t in
-      change-well (same_as known (handed d u.value)) (handed d u.value) x s u.talk
-      (strips-well d u.value.list (h refl) (live-once d r.here.part.live t))
+      change_well (same_as known (handed d u.value)) (handed d u.value) x s u.talk
+      (strips_well d u.value.list (h refl) (live_once d r.here.part.live t))
 
-  pub refresh-well : (b : Bool) (known : Option (List Strip)) (x : Lamps) (s : List ℕ) (t : Talk) → WellStrips (refresh_due b known r x s t).value.strips
+  pub refresh_well : (b : Bool) (known : Option (List Strip)) (x : Lamps) (s : List ℕ) (t : Talk) → WellStrips (refresh_due b known r x s t).value.strips
   unfolding refresh_live
-  refresh-well true known x s t = ask-well (eqb r.here.part.live 65535) (eqb r.here.part.device 65535) known x s t own
-  refresh-well false known x s t = mine
+  refresh_well true known x s t = ask_well (eqb r.here.part.live 65535) (eqb r.here.part.device 65535) known x s t own
+  refresh_well false known x s t = mine
 
 -- every bank's list
 abbrev pub WellLives : Lives → Type 0
 WellLives lives = (b : ℕ) → WellStrips (strips_or (get_or lives b none))
 
-pub set-well : (lives : Lives) (bank : ℕ) (l : List Strip) → WellLives lives → WellStrips l → WellLives (set lives bank (some l))
-set-well [] bank l h k b = h b
-set-well (x ∷ xs) zero l h k zero = k
-set-well (x ∷ xs) zero l h k (suc b) = h (suc b)
-set-well (x ∷ xs) (suc n) l h k zero = h zero
-set-well (x ∷ xs) (suc n) l h k (suc b) = set-well xs n l (λ c. h (suc c)) k b
+pub set_well : (lives : Lives) (bank : ℕ) (l : List Strip) → WellLives lives → WellStrips l → WellLives (set lives bank (some l))
+set_well [] bank l h k b = h b
+set_well (x ∷ xs) zero l h k zero = k
+set_well (x ∷ xs) zero l h k (suc b) = h (suc b)
+set_well (x ∷ xs) (suc n) l h k zero = h zero
+set_well (x ∷ xs) (suc n) l h k (suc b) = set_well xs n l (λ c. h (suc c)) k b

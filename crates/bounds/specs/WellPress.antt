@@ -20,18 +20,18 @@ use Rattle.definition.specs.Muting.{peer, note_mutes, note_if, solo_if, solo_wit
 use Rattle.definition.specs.Scenes.{Started, placed, loaded_if, load_at_if, load_scene_at, start_if, start, shown_if, page_if, step_scene_if, step_scene, scene_if, scene, is_at, next_scene, scene_on_device, scene_names, load_on}
 use Rattle.definition.specs.Banks.{Selected, select_if, select_bank, next_bank, step_if, step_bank}
 use Rattle.definition.specs.Buttons.{Press, Pressed, bank_of, page, walk, command, rec_as, rec, select_as, mute_as, solo_as, or_first, press_of, button, rec_loads}
-use Rattle.bounds.specs.WellFlash.{Shaped, number-gives, bank-gives}
+use Rattle.bounds.specs.WellFlash.{Shaped, number_gives, bank_gives}
 
 -- ── solo and scenes ──
 
 module _ (r : Rig) where
-  notes-shaped : (group : ℕ) (s : List ℕ) (n : ℕ) (l : Lamps) (t : Talk) → Shaped l → Shaped (note_mutes (peer r group) s n l t).value
+  notes_shaped : (group : ℕ) (s : List ℕ) (n : ℕ) (l : Lamps) (t : Talk) → Shaped l → Shaped (note_mutes (peer r group) s n l t).value
   unfolding note_mutes next none_noted note_muted
-  notes-shaped group s zero l t h = h
-  notes-shaped group s (suc n) l t h = notes-shaped group s n l t h
+  notes_shaped group s zero l t h = h
+  notes_shaped group s (suc n) l t h = notes_shaped group s n l t h
 
   note_if-shaped : (b : Bool) (group : ℕ) (s : List ℕ) (l : Lamps) (t : Talk) → Shaped l → Shaped (note_if b (peer r group) s l t).value
-  note_if-shaped true group s l t h = notes-shaped group s 16 l t h
+  note_if-shaped true group s l t h = notes_shaped group s 16 l t h
   note_if-shaped false group s l t h = h
 
   solo_if-shaped : (b : Bool) (group fader : ℕ) (l : Lamps) (s : List Hushed) (t : Talk) → Shaped l → Shaped (solo_if b r group fader l s t).value.lamps
@@ -52,10 +52,10 @@ module _ (r : Rig) where
   loaded_if-shaped true s i l t h = h
   loaded_if-shaped false s i l t h = h
 
-  load_at-shaped : (b : Bool) (s : List ℕ) (i : ℕ) (l : Lamps) (names : List ℕ) (t : Talk) → Shaped l → Shaped (load_at_if b r s i l names t).value.lamps
+  load_at_shaped : (b : Bool) (s : List ℕ) (i : ℕ) (l : Lamps) (names : List ℕ) (t : Talk) → Shaped l → Shaped (load_at_if b r s i l names t).value.lamps
   unfolding next
-  load_at-shaped true s i l names t h = h
-  load_at-shaped false s i l names t h =
+  load_at_shaped true s i l names t h = h
+  load_at_shaped false s i l names t h =
       let u = load_on (device r.here) (get_or names i 65535) i t in
       loaded_if-shaped u.value s i l u.talk h
 
@@ -63,7 +63,7 @@ module _ (r : Rig) where
   unfolding load_scene_at next
   load-shaped s i l t h =
       let u = scene_names r.here t in
-      load_at-shaped (eqb (device r.here) 65535 || leb (length u.value) i) s i l u.value u.talk h
+      load_at_shaped (eqb (device r.here) 65535 || leb (length u.value) i) s i l u.value u.talk h
 
   placed-shaped : (p : Place) (bank : ℕ) (l : Lamps) → Shaped l → Shaped (placed bank p l)
   unfolding scene_to scene_unknown
@@ -82,7 +82,7 @@ module _ (r : Rig) where
   module _ (s : List ℕ) (m : Moves) (now : Float) where
     shown-shaped : (b : Bool) (i : ℕ) (l : Lamps) (saved : Bool) (t : Talk) → Shaped l → Shaped (shown_if b r s m now i l saved t).value.lamps
     unfolding next
-    shown-shaped true i l saved t h = number-gives r s m now i 8 l refl t
+    shown-shaped true i l saved t h = number_gives r s m now i 8 l refl t
     shown-shaped false i l saved t h = h
 
     page_if-shaped : (b : Bool) (i : ℕ) (x : Started) (t : Talk) → Shaped x.lamps → Shaped (page_if b r s m now i x t).value.lamps
@@ -109,7 +109,7 @@ module _ (r : Rig) where
 
     scene_if-shaped : (b : Bool) (n : ℕ) (l : Lamps) (t : Talk) → Shaped l → Shaped (scene_if b r s m now n l t).value.lamps
     unfolding next
-    scene_if-shaped true n l t h = number-gives r s m now (n - 1) 8 (loaded_by n l) refl t
+    scene_if-shaped true n l t h = number_gives r s m now (n - 1) 8 (loaded_by n l) refl t
     scene_if-shaped false n l t h = h
 
     scene-shaped : (n : ℕ) (l : Lamps) (t : Talk) → Shaped l → Shaped (scene r s m now n l t).value.lamps
@@ -129,18 +129,18 @@ module _ (rig_at : ℕ → Rig) (banks bank i : ℕ) (s : List ℕ) (m : Moves) 
   abbrev Chosen : Selected → Type 0
   Chosen x = Settled banks x.bank x.lamps
 
-  select_if-so : (b : Bool) (t : Talk) → leb banks i ≡ b → Chosen (select_if b rig_at bank i s m now l t).value
+  select_if_so : (b : Bool) (t : Talk) → leb banks i ≡ b → Chosen (select_if b rig_at bank i s m now l t).value
   unfolding next
-  select_if-so true t e = h
-  select_if-so false t e = record { bank = leb-false banks i e; lamps = bank-gives (rig_at i) s m now l _ }
+  select_if_so true t e = h
+  select_if_so false t e = record { bank = leb-false banks i e; lamps = bank_gives (rig_at i) s m now l _ }
 
-  select-so : (t : Talk) → Chosen (select_bank rig_at banks bank i s m now l t).value
+  select_so : (t : Talk) → Chosen (select_bank rig_at banks bank i s m now l t).value
   unfolding select_bank
-  select-so t = select_if-so (leb banks i) t refl
+  select_so t = select_if_so (leb banks i) t refl
 
-  step_if-so : (b : Bool) (t : Talk) → Chosen (step_if b rig_at banks bank i s m now l t).value
-  step_if-so true t = h
-  step_if-so false t = select-so t
+  step_if_so : (b : Bool) (t : Talk) → Chosen (step_if b rig_at banks bank i s m now l t).value
+  step_if_so true t = h
+  step_if_so false t = select_so t
 
 -- ── a press ──
 
@@ -151,52 +151,52 @@ module _ (p : Press) (h : Settled p.banks (bank_of p) p.lamps) where
   stays : {l : Lamps} → Shaped l → Settled p.banks (bank_of p) l
   stays w = record { bank = h.bank; lamps = w }
 
-  rec_as-fine : (b : Bool) (ch : ℕ) → Fine (rec_as b ch p)
+  rec_as_fine : (b : Bool) (ch : ℕ) → Fine (rec_as b ch p)
   unfolding next
-  rec_as-fine true ch t = stays (scene-shaped p.rig (targets_of p.silenced) p.moves p.now (ch + 1) p.lamps t h.lamps)
-  rec_as-fine false ch t = h
+  rec_as_fine true ch t = stays (scene-shaped p.rig (targets_of p.silenced) p.moves p.now (ch + 1) p.lamps t h.lamps)
+  rec_as_fine false ch t = h
 
-  rec-fine : (ch : ℕ) → Fine (rec ch p)
+  rec_fine : (ch : ℕ) → Fine (rec ch p)
   unfolding next
-  rec-fine ch t = let u = rec_loads p.rig t in rec_as-fine u.value ch u.talk
+  rec_fine ch t = let u = rec_loads p.rig t in rec_as_fine u.value ch u.talk
 
-  select-fine : (b : Bool) (ch : ℕ) → Fine (select_as b ch p)
+  select_fine : (b : Bool) (ch : ℕ) → Fine (select_as b ch p)
   unfolding next
-  select-fine true ch t = select-so p.rig_at p.banks (bank_of p) ch (targets_of p.silenced) p.moves p.now p.lamps h t
-  select-fine false ch t = h
+  select_fine true ch t = select_so p.rig_at p.banks (bank_of p) ch (targets_of p.silenced) p.moves p.now p.lamps h t
+  select_fine false ch t = h
 
-  page-fine : (right : Bool) → Fine (page right p)
+  page_fine : (right : Bool) → Fine (page right p)
   unfolding next
-  page-fine right t = stays (page-shaped p.rig (targets_of p.silenced) p.moves p.now right p.lamps t h.lamps)
+  page_fine right t = stays (page-shaped p.rig (targets_of p.silenced) p.moves p.now right p.lamps t h.lamps)
 
   walk_fine : (right : Bool) → Fine (walk right p)
   unfolding next step_bank
   walk_fine right t =
       let i = next_bank right p.banks (bank_of p) in
-      step_if-so p.rig_at p.banks (bank_of p) i (targets_of p.silenced) p.moves p.now p.lamps h (eqb i (bank_of p)) t
+      step_if_so p.rig_at p.banks (bank_of p) i (targets_of p.silenced) p.moves p.now p.lamps h (eqb i (bank_of p)) t
 
-  mute-fine : (n : ℕ) → Fine (mute_as n p)
+  mute_fine : (n : ℕ) → Fine (mute_as n p)
   unfolding next
-  mute-fine n t = h
+  mute_fine n t = h
 
-  solo-fine : (n : ℕ) → Fine (solo_as n p)
+  solo_fine : (n : ℕ) → Fine (solo_as n p)
   unfolding next
-  solo-fine n t = stays (solo-shaped p.rig n p.lamps p.silenced t h.lamps)
+  solo_fine n t = stays (solo-shaped p.rig n p.lamps p.silenced t h.lamps)
 
-  either-fine : (b : Bool) (f g : Act Pressed) → Fine f → Fine g → Fine (pick b f g)
-  either-fine true f g x y = x
-  either-fine false f g x y = y
+  either_fine : (b : Bool) (f g : Act Pressed) → Fine f → Fine g → Fine (pick b f g)
+  either_fine true f g x y = x
+  either_fine false f g x y = y
 
-  pub button-fine : (note : ℕ) → Fine (button note p)
+  pub button_fine : (note : ℕ) → Fine (button note p)
   unfolding button press_of
-  button-fine note =
+  button_fine note =
       let kind = kind_of note in
       let ch = or_first (channel_of note) in
-      either-fine (eqb kind 7) (page true p) _ (page-fine true)
-      (either-fine (eqb kind 6) (page false p) _ (page-fine false)
-      (either-fine (eqb kind 5 || eqb kind 9) (walk true p) _ (walk_fine true)
-      (either-fine (eqb kind 4 || eqb kind 8) (walk false p) _ (walk_fine false)
-      (either-fine (eqb kind 2) (mute_as (ch + 1) p) _ (mute-fine (ch + 1))
-      (either-fine (eqb kind 1) (solo_as (ch + 1) p) _ (solo-fine (ch + 1))
-      (either-fine (eqb kind 0) (rec ch p) _ (rec-fine ch)
-      (either-fine (eqb kind 3) (select_as p.rig.here.part.select ch p) (command kind p) (select-fine p.rig.here.part.select ch) (λ t. h))))))))
+      either_fine (eqb kind 7) (page true p) _ (page_fine true)
+      (either_fine (eqb kind 6) (page false p) _ (page_fine false)
+      (either_fine (eqb kind 5 || eqb kind 9) (walk true p) _ (walk_fine true)
+      (either_fine (eqb kind 4 || eqb kind 8) (walk false p) _ (walk_fine false)
+      (either_fine (eqb kind 2) (mute_as (ch + 1) p) _ (mute_fine (ch + 1))
+      (either_fine (eqb kind 1) (solo_as (ch + 1) p) _ (solo_fine (ch + 1))
+      (either_fine (eqb kind 0) (rec ch p) _ (rec_fine ch)
+      (either_fine (eqb kind 3) (select_as p.rig.here.part.select ch p) (command kind p) (select_fine p.rig.here.part.select ch) (λ t. h))))))))

@@ -4,31 +4,31 @@ use Rattle.std.proofs.Math.Path.{refl}
 use Rattle.std.proofs.Common.{arith}
 use Rattle.base.specs.Keyed.{no_twice, beside}
 use Rattle.profile.specs.Profile.{verdict}
-use Rattle.profile.specs.Accepted.{some-bank}
+use Rattle.profile.specs.Accepted.{some_bank}
 use Rattle.session.specs.Session.{fresh_session, no_strips, seen_strips}
-use Rattle.session.specs.SessionLaws.{no-strips, line-empty}
+use Rattle.session.specs.SessionLaws.{no_strips_lem, line_empty}
 use Rattle.definition.specs.Shape.{shaped_flash}
 use Rattle.definition.specs.Step.{seen, fresh_kept}
 use Rattle.bounds.specs.Well.{Well}
 use Rattle.bounds.specs.WellLive.{WellLives}
-use Rattle.bounds.specs.WellDesk.{no-turns}
+use Rattle.bounds.specs.WellDesk.{no_turns_lem}
 
 -- ── a fresh session ──
 
-none-live : (n : ℕ) → WellLives (map seen_strips (replicate n no_strips))
+none_live : (n : ℕ) → WellLives (map seen_strips (replicate n no_strips))
 unfolding seen_strips
-none-live zero b = no-strips
-none-live (suc n) zero = no-strips
-none-live (suc n) (suc b) = none-live n b
+none_live zero b = no_strips_lem
+none_live (suc n) zero = no_strips_lem
+none_live (suc n) (suc b) = none_live n b
 
-pub fresh-well : (p : List ℕ) → verdict p ≡ 0 → Well p fresh_kept
+pub fresh_well : (p : List ℕ) → verdict p ≡ 0 → Well p fresh_kept
 unfolding seen fresh_session beside no_twice shaped_flash
-fresh-well p sound =
-    let none-turned = no-turns p in
+fresh_well p sound =
+    let none-turned = no_turns_lem p in
     record {
-      bank = omega (arith, some-bank p sound);
-      line = line-empty;
-      lives = none-live 16;
+      bank = omega (arith, some_bank p sound);
+      line = line_empty;
+      lives = none_live 16;
       few = none-turned.few;
       wired = none-turned.wired;
       sums = none-turned.sums;

@@ -17,7 +17,7 @@ use Rattle.drivers.specs.Talk.{Talk, Got, Act, got, next}
 use Rattle.drivers.specs.declared.Io.{Io}
 use Rattle.drivers.specs.declared.Level.{Level}
 use Rattle.session.specs.Session.{Hushed, hushed_up_to, targets_of, seen_strips, strips_or, last_move}
-use Rattle.session.specs.SessionLaws.{targets-seen}
+use Rattle.session.specs.SessionLaws.{targets_seen}
 use Rattle.session.specs.declared.Strip.{Strip}
 use Rattle.session.specs.declared.Lamps.{Lamps}
 use Rattle.session.specs.declared.Moves.{Moves}
@@ -67,12 +67,12 @@ leaves-still here x e q h n = record { bank = ap (λ (c : Current). c.bank) e; f
 
 -- the same, as `still` leaves it
 module _ (here : Current) (x : declared.Left) (io : Io) (l : Lamps) (n : ℕ) (e : x ≡ still_as io here l n) where
-  pub still-hushed : x.hushed ≡ n
-  still-hushed = ap (λ (y : declared.Left). y.hushed) e
+  pub still_hushed : x.hushed ≡ n
+  still_hushed = ap (λ (y : declared.Left). y.hushed) e
 
   pub still-leaves : here.strips.count ≤ 8 → n ≤ 256 → Leaves here x
   still-leaves h k =
-      leaves-still here x (ap (λ (y : declared.Left). y.here) e) (ap (λ (y : declared.Left). y.changed) e) h (rw still-hushed k)
+      leaves-still here x (ap (λ (y : declared.Left). y.here) e) (ap (λ (y : declared.Left). y.changed) e) h (rw still_hushed k)
 
 -- the bank with the list that a refresh left
 pub leaves-again : (here : Current) (r : again.Refreshed) (x : declared.Left) → x.here ≡ r.here → x.changed ≡ r.changed → StillHere here r → x.hushed ≤ 256 →
@@ -108,39 +108,39 @@ module _ (p : List ℕ) (here there : Current) (l : Lamps) (s : List Hushed) (ho
       ∙ same-press note (rig_at (view_of p) k) (bank_count p) k.desk.moves now t _ _ _ _ _ _ g.rig g.lamps g.silenced)
 
   -- the message is that button's
-  pub midi-press : (m : Event) (b : Button) (x : declared.Left) (s₁ : List Hushed) (u : Talk) → m ≡ event.Button b → runs (input.Midi m) ≡ true →
+  pub midi_press : (m : Event) (b : Button) (x : declared.Left) (s₁ : List Hushed) (u : Talk) → m ≡ event.Button b → runs (input.Midi m) ≡ true →
       Runs (pressing b.note) p here there l s home now t x s₁ u → Runs (on_midi m) p here there l s home now t x s₁ u
-  midi-press m b x s₁ u e q f k g =
+  midi_press m b x s₁ u e q f k g =
       f k g
       ∙ sym
       (ap (λ z. on_midi z (view_of p) k now t) e
       ∙ ap (λ z. on_button z (view_of p) k now b.note t) (sym (ap (λ z. runs (input.Midi z)) e) ∙ q))
 
 -- the press that the message is
-press-of : (m : Event) (b : Button) → m ≡ event.Button b → runs (input.Midi m) ≡ true → press_in (input.Midi m) ≡ press.Of b
-press-of m b e q = ap (λ z. press_in (input.Midi z)) e ∙ ap (λ z. press_if z b) (sym (ap (λ z. runs (input.Midi z)) e) ∙ q)
+press_of_lem : (m : Event) (b : Button) → m ≡ event.Button b → runs (input.Midi m) ≡ true → press_in (input.Midi m) ≡ press.Of b
+press_of_lem m b e q = ap (λ z. press_in (input.Midi z)) e ∙ ap (λ z. press_if z b) (sym (ap (λ z. runs (input.Midi z)) e) ∙ q)
 
 -- the bank that is current after it, and room for what it adds
-pub bank-of : (p : List ℕ) (bank there : ℕ) (m : Event) (b : Button) → m ≡ event.Button b → runs (input.Midi m) ≡ true →
+pub bank_of_lem : (p : List ℕ) (bank there : ℕ) (m : Event) (b : Button) → m ≡ event.Button b → runs (input.Midi m) ≡ true →
     there ≡ bank_by p bank (press_in (input.Midi m)) → there ≡ bank_after p bank b.note
-bank-of p bank there m b e q h = h ∙ ap (bank_by p bank) (press-of m b e q)
+bank_of_lem p bank there m b e q h = h ∙ ap (bank_by p bank) (press_of_lem m b e q)
 
 pub room_of : (p : List ℕ) (here : Current) (l : Lamps) (ts : List ℕ) (n : ℕ) (m : Event) (b : Button) → m ≡ event.Button b → runs (input.Midi m) ≡ true →
     n + length (adds_by p here l (press_in (input.Midi m)) ts) ≤ 256 → n + length (added_of p here l b.note ts) ≤ 256
-room_of p here l ts n m b e q h = let y = ap (λ z. length (adds_by p here l z ts)) (press-of m b e q) in omega arith
+room_of p here l ts n m b e q h = let y = ap (λ z. length (adds_by p here l z ts)) (press_of_lem m b e q) in omega arith
 
 -- the same where the event is the message
-pub bank-midi : (p : List ℕ) (bank there : ℕ) (what : Input) (m : Event) → what ≡ input.Midi m → there ≡ bank_by p bank (press_in what) →
+pub bank_midi : (p : List ℕ) (bank there : ℕ) (what : Input) (m : Event) → what ≡ input.Midi m → there ≡ bank_by p bank (press_in what) →
     there ≡ bank_by p bank (press_in (input.Midi m))
-bank-midi p bank there what m e h = h ∙ ap (λ z. bank_by p bank (press_in z)) e
+bank_midi p bank there what m e h = h ∙ ap (λ z. bank_by p bank (press_in z)) e
 
-pub room-midi : (p : List ℕ) (here : Current) (l : Lamps) (ts : List ℕ) (n : ℕ) (what : Input) (m : Event) → what ≡ input.Midi m →
+pub room_midi : (p : List ℕ) (here : Current) (l : Lamps) (ts : List ℕ) (n : ℕ) (what : Input) (m : Event) → what ≡ input.Midi m →
     n + length (adds_by p here l (press_in what) ts) ≤ 256 → n + length (adds_by p here l (press_in (input.Midi m)) ts) ≤ 256
-room-midi p here l ts n what m e h = let y = ap (λ z. length (adds_by p here l (press_in z) ts)) e in omega arith
+room_midi p here l ts n what m e h = let y = ap (λ z. length (adds_by p here l (press_in z) ts)) e in omega arith
 
 -- a fader, an encoder and any other message do not come here
-pub no-hand : (m n : Event) → m ≡ n → runs (input.Midi n) ≡ false → runs (input.Midi m) ≡ true → ⊥
-no-hand m n e q h =
+pub no_hand : (m n : Event) → m ≡ n → runs (input.Midi n) ≡ false → runs (input.Midi m) ≡ true → ⊥
+no_hand m n e q h =
     let y : ◌≡◌ {A = Bool} true false = sym h ∙ ap (λ z. runs (input.Midi z)) e ∙ q in
     let z : ◌≡◌ {A = ℕ} 0 1 = cc in
     omega arith
@@ -148,19 +148,19 @@ no-hand m n e q h =
 -- ── in the current bank ──
 
 module _ (p : List ℕ) (here : Current) (l : Lamps) (ts : List ℕ) (t : Talk) where
-  pub pushes-state : (io : Io) (n : ℕ) (u : Talk) → u ≡ push_state (rig_in p here) l ts t → Pushes (act input.PushState) p here l ts t (still_as io here l n) u
+  pub pushes_state : (io : Io) (n : ℕ) (u : Talk) → u ≡ push_state (rig_in p here) l ts t → Pushes (act input.PushState) p here l ts t (still_as io here l n) u
   unfolding act
-  pushes-state io n u f home now k s e g =
+  pushes_state io n u f home now k s e g =
       ap (λ z. got z u) (as_it_was k here s now io l n g.bank g.silenced ∙ ap (with_lamps k) (sym g.lamps))
       ∙ ap (got (same k)) (f ∙ line _ _ _ _ _ _ g.rig g.lamps (ap targets_of g.silenced ∙ e))
     where
       line : (r r₁ : Rig) (x x₁ : Lamps) (s s₁ : List ℕ) → r₁ ≡ r → x₁ ≡ x → s₁ ≡ s → push_state r x s t ≡ push_state r₁ x₁ s₁ t
       line r r₁ x x₁ s s₁ a b c = rw (a, b, c)
 
-  pub pushes-transport : (io : Io) (n : ℕ) (u : Talk) → u ≡ push_bound (merged (transports_of p 255) (transports_of p here.bank)) [] t →
+  pub pushes_transport : (io : Io) (n : ℕ) (u : Talk) → u ≡ push_bound (merged (transports_of p 255) (transports_of p here.bank)) [] t →
       Pushes (act input.PushTransport) p here l ts t (still_as io here l n) u
   unfolding act push_transport
-  pushes-transport io n u f home now k s e g =
+  pushes_transport io n u f home now k s e g =
       ap (λ z. got z u) (as_it_was k here s now io l n g.bank g.silenced ∙ ap (with_lamps k) (sym g.lamps))
       ∙ ap (got (same k)) (f ∙ ap (λ r. push_transport r t) (sym g.rig))
 
@@ -172,11 +172,11 @@ module _ (p : List ℕ) (here : Current) (l : Lamps) (ts : List ℕ) (t : Talk) 
     flashes io n x u f k s e g =
         ap (λ z. got z u) (as_it_was k here s now io x n g.bank g.silenced)
         ∙ ap (λ z. next z (λ y. got (with_lamps k y)))
-        (f k.desk.moves g.home ∙ shown-bank _ _ _ _ _ _ g.rig g.lamps (ap targets_of g.silenced ∙ e))
+        (f k.desk.moves g.home ∙ shown_bank _ _ _ _ _ _ g.rig g.lamps (ap targets_of g.silenced ∙ e))
       where
-        shown-bank : (r r₁ : Rig) (x x₁ : Lamps) (s s₁ : List ℕ) → r₁ ≡ r → x₁ ≡ x → s₁ ≡ s →
+        shown_bank : (r r₁ : Rig) (x x₁ : Lamps) (s s₁ : List ℕ) → r₁ ≡ r → x₁ ≡ x → s₁ ≡ s →
             flash_bank r s k.desk.moves now x t ≡ flash_bank r₁ s₁ k.desk.moves now x₁ t
-        shown-bank r r₁ x x₁ s s₁ a b c = rw (a, b, c)
+        shown_bank r r₁ x x₁ s s₁ a b c = rw (a, b, c)
 
 -- ── a tick ──
 
@@ -194,8 +194,8 @@ ticked k here s true now io r l n e f w = rw (← e, ← f)
 ticked k here s false now io r l n e f w = rw (← e, ← f, w refl)
 
 -- the bank with its new list
-again-here : (p : List ℕ) (here there : Current) → there.bank ≡ here.bank → rig_in p there ≡ with_strips (strips_or (seen_strips there.strips)) (rig_in p here)
-again-here p here there e = rw e
+again_here : (p : List ℕ) (here there : Current) → there.bank ≡ here.bank → rig_in p there ≡ with_strips (strips_or (seen_strips there.strips)) (rig_in p here)
+again_here p here there e = rw e
 
 module _ (p : List ℕ) (here : Current) (l : Lamps) (ts : List ℕ) (home : Level) (due : Bool) (now : Float) (t : Talk) where
   -- u is the line after the list, w and x what the flash leaves
@@ -205,7 +205,7 @@ module _ (p : List ℕ) (here : Current) (l : Lamps) (ts : List ℕ) (home : Lev
   unfolding tick_behind next
   ticks io n r x u w a h f k s e g d =
       ap (λ z. got z w) (ticked k here s due now io r x n g.bank g.silenced not-due)
-      ∙ ap (λ z. next z (λ y. got (after_tick due k now (seen_again r) y))) (f k.desk.moves home-again ∙ played _ _ _ _ _ _ rig-again g.lamps targets)
+      ∙ ap (λ z. next z (λ y. got (after_tick due k now (seen_again r) y))) (f k.desk.moves home_again ∙ played _ _ _ _ _ _ rig_again g.lamps targets)
       ∙ ap (λ z. next z (λ y. flash_tick due (view_of p) k now y)) (a ∙ listed _ _ _ _ _ _ _ _ g.strips g.rig g.lamps targets)
       ∙ ap
       (λ z. next (refresh_due z (get_or k.site.lives k.site.bank none) (rig_now (view_of p) k) k.lamps (targets_of k.silenced) t)
@@ -219,11 +219,11 @@ module _ (p : List ℕ) (here : Current) (l : Lamps) (ts : List ℕ) (home : Lev
           unchanged (seen_strips here.strips) (rig_in p here) l ts t u (seen_again r)
           (a ∙ ap (λ z. refresh_due z (seen_strips here.strips) (rig_in p here) l ts t) q)
 
-      home-again : IsHome home (rig_in p r.here) l k.desk.moves
-      home-again q = g.home q ∙ ap (λ b. last_move (b * 16 + l.flash.row) k.desk.moves) (sym h.bank)
+      home_again : IsHome home (rig_in p r.here) l k.desk.moves
+      home_again q = g.home q ∙ ap (λ b. last_move (b * 16 + l.flash.row) k.desk.moves) (sym h.bank)
 
-      rig-again : with_strips (strips_or (seen_strips r.here.strips)) (rig_now (view_of p) k) ≡ rig_in p r.here
-      rig-again = ap (with_strips (strips_or (seen_strips r.here.strips))) g.rig ∙ sym (again-here p here r.here h.bank)
+      rig_again : with_strips (strips_or (seen_strips r.here.strips)) (rig_now (view_of p) k) ≡ rig_in p r.here
+      rig_again = ap (with_strips (strips_or (seen_strips r.here.strips))) g.rig ∙ sym (again_here p here r.here h.bank)
 
       played : (r r₁ : Rig) (x x₁ : Lamps) (s s₁ : List ℕ) → r₁ ≡ r → x₁ ≡ x → s₁ ≡ s →
           tick_flash r s k.desk.moves now x u ≡ tick_flash r₁ s₁ k.desk.moves now x₁ u
@@ -236,10 +236,10 @@ module _ (p : List ℕ) (here : Current) (l : Lamps) (ts : List ℕ) (home : Lev
 -- ── any of them ──
 
 module _ (p : List ℕ) (here there : Current) (l : Lamps) (home : Level) (due : Bool) (now : Float) (t : Talk) (what : Input) where
-  pub runs-midi : (m : Event) (s s₁ : List Hushed) (x : declared.Left) (u : Talk) → what ≡ input.Midi m → Runs (on_midi m) p here there l s home now t x s₁ u →
+  pub runs_midi : (m : Event) (s s₁ : List Hushed) (x : declared.Left) (u : Talk) → what ≡ input.Midi m → Runs (on_midi m) p here there l s home now t x s₁ u →
       RunsAny what p here there l s home due now t x s₁ u
   unfolding left_of behind
-  runs-midi m s s₁ x u e f k g d = rw e (f k g)
+  runs_midi m s s₁ x u e f k g d = rw e (f k g)
 
   -- the bank stays the current one
   module _ (k : Kept) (s : List Hushed) (e : there.bank ≡ here.bank) (g : Given p k here there l s home) where
@@ -259,7 +259,7 @@ module _ (p : List ℕ) (here there : Current) (l : Lamps) (home : Level) (due :
   module _ (n : ℕ) (targets : List ℕ) (levels : List Float) (x : declared.Left) (u : Talk) (few : n ≤ 256) (long : length levels ≡ 256) (q : x.hushed ≡ n)
       (b : there.bank ≡ bank_by p here.bank (press_in what)) where
     held : targets_of (hushed_up_to n targets levels) ≡ take n targets
-    held = targets-seen n targets levels (omega arith)
+    held = targets_seen n targets levels (omega arith)
 
     pub runs-tick : what ≡ input.Tick → Ticks p here l (take n targets) home due now t x u →
         RunsAny what p here there l (hushed_up_to n targets levels) home due now t x (hushed_up_to x.hushed targets levels) u
@@ -274,10 +274,10 @@ module _ (p : List ℕ) (here there : Current) (l : Lamps) (home : Level) (due :
         rw (e, q)
         (w k (hushed_up_to n targets levels) held (stays k _ (b ∙ ap (bank_by p here.bank) i) g) ∙ sym (a (view_of p) k now t))
 
-    pub runs-state : what ≡ input.PushState → Pushes (act input.PushState) p here l (take n targets) t x u →
+    pub runs_state : what ≡ input.PushState → Pushes (act input.PushState) p here l (take n targets) t x u →
         RunsAny what p here there l (hushed_up_to n targets levels) home due now t x (hushed_up_to x.hushed targets levels) u
     unfolding behind
-    runs-state e f = runs-still (act input.PushState) (ap is_tick e) (ap press_in e) (λ v k w y. ap (λ z. behind z v k w y) e) (f home now)
+    runs_state e f = runs-still (act input.PushState) (ap is_tick e) (ap press_in e) (λ v k w y. ap (λ z. behind z v k w y) e) (f home now)
 
     pub runs-transport : what ≡ input.PushTransport → Pushes (act input.PushTransport) p here l (take n targets) t x u →
         RunsAny what p here there l (hushed_up_to n targets levels) home due now t x (hushed_up_to x.hushed targets levels) u

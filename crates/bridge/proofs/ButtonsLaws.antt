@@ -19,14 +19,14 @@ use Rattle.drivers.specs.Shown.{shown}
 use Rattle.drivers.specs.declared.Io.{Io}
 use Rattle.drivers.specs.declared.Level.{Level}
 use Rattle.session.specs.Session.{Hushed, hushed_up_to, targets_of, has_room}
-use Rattle.session.specs.SessionLaws.{same_hushed, targets-seen}
+use Rattle.session.specs.SessionLaws.{same_hushed, targets_seen}
 use Rattle.session.specs.declared.Lamps.{Lamps}
 use Rattle.definition.specs.Rig.{Rig, destination}
 use Rattle.definition.specs.Levels.{kept_by, has_mute}
 use Rattle.definition.specs.Banks.{next_bank, step_left, select_bank}
 use Rattle.definition.specs.Muting.{adding, added_by_solo, added_by_mute, mute, solo}
 use Rattle.definition.specs.Buttons.{run_command, rec_loads, page, walk, rec, select_as}
-use Rattle.definition.specs.SilencingLaws.{held, adding-covers, room_within, once-keys}
+use Rattle.definition.specs.SilencingLaws.{held, adding_covers, room_within, once_keys}
 use Rattle.rig.specs.Seen.{rig_in}
 use Rattle.rig.specs.declared.Current.{Current}
 use Rattle.mutes.specs.Held.{room_at}
@@ -54,14 +54,14 @@ count_of x y e = ap (λ (z : Pressed). z.hushed) e
 
 -- ── the bank that is reached ──
 
-left-low : (banks bank : ℕ) → bank < banks → step_left bank < banks
-left-low banks zero h = h
-left-low banks (suc b) h = omega arith
+left_low : (banks bank : ℕ) → bank < banks → step_left bank < banks
+left_low banks zero h = h
+left_low banks (suc b) h = omega arith
 
 -- the next bank is one of the profile's, as the current one is
 pub next_low : (right : Bool) (banks bank : ℕ) → bank < banks → next_bank right banks bank < banks
 unfolding next_bank
-next_low false banks bank h = left-low banks bank h
+next_low false banks bank h = left_low banks bank h
 next_low true banks bank h = go (ltb (bank + 1) banks) refl
   where
     go : (b : Bool) → ltb (bank + 1) banks ≡ b → pick b (bank + 1) bank < banks
@@ -123,11 +123,11 @@ module _ (p : List ℕ) (here : Current) (l : Lamps) (n : ℕ) (ts : List ℕ) (
         unfolding selected_by
         reached d to = to ∙ rw (← se, not-false b c, ← ye, not-false y d)
 
-        pub selects-bank : (a : Selected) → not y ≡ false → there.bank ≡ selected_by p here.bank ch →
+        pub selects_bank : (a : Selected) → not y ≡ false → there.bank ≡ selected_by p here.bank ch →
             Selects (rig_in p there) l ts home now t (got (seen_selected a) (seen a.io)) → x ≡ banked a n →
             PressesThere (select_as (select_of p here.bank) ch) p here there l n ts home now t x (seen x.io)
         unfolding next select_bank selecting
-        selects-bank a d to f e = (
+        selects_bank a d to f e = (
           (λ rig_at m s q k j h. let r : rig_at ch ≡ rig_in p there = subst (λ i. rig_at i ≡ rig_in p there) (reached d to) j in
               let low : ch < bank_count p = ltb-true ch (bank_count p) (sym ye ∙ not-false y d) in
               let g : select_bank rig_at (bank_count p) here.bank ch ts m now l t ≡ got (seen_selected a) (seen a.io) =
@@ -152,22 +152,22 @@ module _ (p : List ℕ) (here : Current) (l : Lamps) (fader : ℕ) (s : List Hus
   mutes b f e rig_at m now = rw (e, b, ← f)
 
 module _ (r : Rig) (fader : ℕ) (l : Lamps) (by : Bool) (s : List Hushed) (few : length s + length (adds_at by r fader l (targets_of s)) ≤ 256) where
-  pub solo-fits : by ≡ true → length s + length (added_by_solo r fader l (targets_of s)) ≤ 256
-  solo-fits b = subst (λ c. length s + length (adds_at c r fader l (targets_of s)) ≤ 256) b few
+  pub solo_fits : by ≡ true → length s + length (added_by_solo r fader l (targets_of s)) ≤ 256
+  solo_fits b = subst (λ c. length s + length (adds_at c r fader l (targets_of s)) ≤ 256) b few
 
-  mute-fits : by ≡ false → length s + length (adding (destination r fader) (targets_of s) []) ≤ 256
+  mute_fits : by ≡ false → length s + length (adding (destination r fader) (targets_of s) []) ≤ 256
   unfolding added_by_mute
-  mute-fits b = subst (λ c. length s + length (adds_at c r fader l (targets_of s)) ≤ 256) b few
+  mute_fits b = subst (λ c. length s + length (adds_at c r fader l (targets_of s)) ≤ 256) b few
 
   -- what number 11 counts leaves a mute its place
-  mute-room : by ≡ false → no_twice eqb (targets_of s) ≡ true → room_at (destination r fader) (targets_of s) ≡ true
-  mute-room b o = go (destination r fader) (mute-fits b)
+  mute_room : by ≡ false → no_twice eqb (targets_of s) ≡ true → room_at (destination r fader) (targets_of s) ≡ true
+  mute_room b o = go (destination r fader) (mute_fits b)
     where
       ts : List ℕ
       ts = targets_of s
 
       once : no_twice same_hushed s ≡ true
-      once = sym (once-keys (λ x. x.target) s) ∙ o
+      once = sym (once_keys (λ x. x.target) s) ∙ o
 
       go : (f : Found) → length s + length (adding f ts []) ≤ 256 → room_at f ts ≡ true
       go found.Nothing h = refl
@@ -181,10 +181,10 @@ module _ (r : Rig) (fader : ℕ) (l : Lamps) (by : Bool) (s : List Hushed) (few 
           at false e =
               let a : length (ts ++ adds) ≡ length ts + length adds = length-append ts adds in
               let same : length ts ≡ length s = length-map s (λ x. x.target) in
-              room_within (ts ++ adds) s (kept_by d) (held s adds once) (adding-covers ts [] (found.To d) e) (omega arith)
+              room_within (ts ++ adds) s (kept_by d) (held s adds once) (adding_covers ts [] (found.To d) e) (omega arith)
 
 -- the targets as the array has them
-pub room-for-mute : (r : Rig) (fader : ℕ) (l : Lamps) (by : Bool) (n : ℕ) (ts : List ℕ) (ls : List Float) → n ≤ length ls → by ≡ false →
+pub room_for_mute : (r : Rig) (fader : ℕ) (l : Lamps) (by : Bool) (n : ℕ) (ts : List ℕ) (ls : List Float) → n ≤ length ls → by ≡ false →
     no_twice eqb (targets_of (hushed_up_to n ts ls)) ≡ true →
     length (hushed_up_to n ts ls) + length (adds_at by r fader l (targets_of (hushed_up_to n ts ls))) ≤ 256 → room_at (destination r fader) (take n ts) ≡ true
-room-for-mute r fader l by n ts ls long b o few = rw (← targets-seen n ts ls long) (mute-room r fader l by (hushed_up_to n ts ls) few b o)
+room_for_mute r fader l by n ts ls long b o few = rw (← targets_seen n ts ls long) (mute_room r fader l by (hushed_up_to n ts ls) few b o)

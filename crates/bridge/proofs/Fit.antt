@@ -12,9 +12,9 @@ use Rattle.base.specs.Choice.{pick}
 use Rattle.base.specs.Range.{every}
 use Rattle.base.specs.RangeLaws.{and_left, and_right, every-at}
 use Rattle.base.specs.Keyed.{all_of, no_twice}
-use Rattle.base.specs.Pigeon.{left-of, right_of}
+use Rattle.base.specs.Pigeon.{left_of_lem, right_of}
 use Rattle.profile.specs.Profile.{bank_count, verdict}
-use Rattle.profile.specs.Accepted.{few-banks}
+use Rattle.profile.specs.Accepted.{few_banks}
 use Rattle.session.specs.Session.{seen_line, seen_turns, is_encoder, seen_silenced, targets_of, seen_strips, strips_or, strips_if, good_strip, same_number}
 use Rattle.session.specs.SessionLaws.{WellLine, WellStrips}
 use Rattle.session.specs.declared.Session.{Session}
@@ -24,128 +24,128 @@ use Rattle.definition.specs.Shape.{shaped_line, shaped_strips, good_turn, shaped
 use Rattle.definition.specs.Step.{seen}
 use Rattle.surface.specs.Home.{has_note}
 use Rattle.bounds.specs.Well.{Well}
-use Rattle.bounds.specs.Whole.{line-well}
+use Rattle.bounds.specs.Whole.{line_well}
 use Rattle.after.specs.After.{few_strips, Places}
 
 -- ── the flash ──
 
-flash-tests : (f : Flash) → shaped_flash f ≡ true → f.on ≡ true → (f.row ≤ 7) × (f.base + f.column ≤ 255)
+flash_tests : (f : Flash) → shaped_flash f ≡ true → f.on ≡ true → (f.row ≤ 7) × (f.base + f.column ≤ 255)
 unfolding shaped_flash
-flash-tests f e on = at f.on on e
+flash_tests f e on = at f.on on e
   where
     tests : List Bool
     tests = leb f.row 7 ∷ leb f.column 7 ∷ (eqb f.base 0 || eqb f.base 8) ∷ leb 1 f.sent ∷ leb f.sent 6 ∷ []
 
-    base-at : (b : Bool) → eqb f.base 0 ≡ b → (b || eqb f.base 8) ≡ true → f.base ≤ 8
-    base-at true q h = omega (arith, eqb-true f.base 0 q)
-    base-at false q h = omega (arith, eqb-true f.base 8 h)
+    base_at : (b : Bool) → eqb f.base 0 ≡ b → (b || eqb f.base 8) ≡ true → f.base ≤ 8
+    base_at true q h = omega (arith, eqb-true f.base 0 q)
+    base_at false q h = omega (arith, eqb-true f.base 8 h)
 
     at : (b : Bool) → b ≡ true → (not b || every tests) ≡ true → (f.row ≤ 7) × (f.base + f.column ≤ 255)
     at true q h =
         let row : f.row ≤ 7 = leb-true f.row 7 (every-at tests 0 h) in
         let column : f.column ≤ 7 = leb-true f.column 7 (every-at tests 1 h) in
-        let base : f.base ≤ 8 = base-at (eqb f.base 0) refl (every-at tests 2 h) in
+        let base : f.base ≤ 8 = base_at (eqb f.base 0) refl (every-at tests 2 h) in
         (row, omega arith)
     at false q h = absurd (true≢false (rw q))
 
-flash-note : (f : Flash) → shaped_flash f ≡ true → has_note f ≡ true
-flash-note f e = at f.on refl
+flash_note : (f : Flash) → shaped_flash f ≡ true → has_note f ≡ true
+flash_note f e = at f.on refl
   where
     at : (b : Bool) → f.on ≡ b → pick b (leb (f.base + f.column) 255) true ≡ true
-    at true q = le-leb (f.base + f.column) 255 (flash-tests f e q).1
+    at true q = le-leb (f.base + f.column) 255 (flash_tests f e q).1
     at false q = refl
 
 -- ── the session ──
 
 module _ (p : List ℕ) (s : Session) (e : well_shaped p s ≡ true) where
-  pub bank-below : s.bank < bank_count p
+  pub bank_below : s.bank < bank_count p
   unfolding well_shaped
-  bank-below = ltb-true s.bank (bank_count p) (every-at _ 0 e)
+  bank_below = ltb-true s.bank (bank_count p) (every-at _ 0 e)
 
-  pub bank-low : verdict p ≡ 0 → s.bank < 16
-  bank-low accepted = omega (arith, bank-below, few-banks p accepted)
+  pub bank_low : verdict p ≡ 0 → s.bank < 16
+  bank_low accepted = omega (arith, bank_below, few_banks p accepted)
 
-  pub line-is : WellLine (seen_line s.line)
+  pub line_is : WellLine (seen_line s.line)
   unfolding well_shaped
-  line-is = line-well s.line (every-at _ 1 e)
+  line_is = line_well s.line (every-at _ 1 e)
 
-  pub line-few : s.line.count ≤ 16
+  pub line_few : s.line.count ≤ 16
   unfolding well_shaped shaped_line
-  line-few = leb-true s.line.count 16 (every-at _ 0 (every-at _ 1 e))
+  line_few = leb-true s.line.count 16 (every-at _ 0 (every-at _ 1 e))
 
-  pub live-is : all_of shaped_strips s.live.banks ≡ true
+  pub live_is : all_of shaped_strips s.live.banks ≡ true
   unfolding well_shaped
-  live-is = every-at _ 2 e
+  live_is = every-at _ 2 e
 
-  pub turns-few : s.turns.count ≤ 136
+  pub turns_few : s.turns.count ≤ 136
   unfolding well_shaped shaped_turns
-  turns-few = leb-true s.turns.count 136 (every-at _ 0 (every-at _ 3 e))
+  turns_few = leb-true s.turns.count 136 (every-at _ 0 (every-at _ 3 e))
 
-  pub turns-wired : all_of (is_encoder p) (take s.turns.count s.turns.records) ≡ true
+  pub turns_wired : all_of (is_encoder p) (take s.turns.count s.turns.records) ≡ true
   unfolding well_shaped shaped_turns
-  turns-wired = every-at _ 1 (every-at _ 3 e)
+  turns_wired = every-at _ 1 (every-at _ 3 e)
 
-  pub sums-low : all_of good_turn (seen_turns p s.turns) ≡ true
+  pub sums_low : all_of good_turn (seen_turns p s.turns) ≡ true
   unfolding well_shaped shaped_turns
-  sums-low = every-at _ 2 (every-at _ 3 e)
+  sums_low = every-at _ 2 (every-at _ 3 e)
 
-  pub silenced-few : s.silenced.count ≤ 256
+  pub silenced_few : s.silenced.count ≤ 256
   unfolding well_shaped shaped_silenced
-  silenced-few = leb-true s.silenced.count 256 (and_left (leb s.silenced.count 256) _ (every-at _ 4 e))
+  silenced_few = leb-true s.silenced.count 256 (and_left (leb s.silenced.count 256) _ (every-at _ 4 e))
 
-  pub silenced-once : no_twice eqb (targets_of (seen_silenced s.silenced)) ≡ true
+  pub silenced_once : no_twice eqb (targets_of (seen_silenced s.silenced)) ≡ true
   unfolding well_shaped shaped_silenced
-  silenced-once = and_right (leb s.silenced.count 256) _ (every-at _ 4 e)
+  silenced_once = and_right (leb s.silenced.count 256) _ (every-at _ 4 e)
 
   flash-is : shaped_flash s.lamps.flash ≡ true
   unfolding well_shaped
   flash-is = every-at _ 5 e
 
-  pub note-is : has_note s.lamps.flash ≡ true
-  note-is = flash-note s.lamps.flash flash-is
+  pub note_is : has_note s.lamps.flash ≡ true
+  note_is = flash_note s.lamps.flash flash-is
 
   pub row_low : s.lamps.flash.on ≡ true → s.lamps.flash.row ≤ 7
-  row_low on = (flash-tests s.lamps.flash flash-is on).0
+  row_low on = (flash_tests s.lamps.flash flash-is on).0
 
-  live-few : (l : List Strips) → all_of shaped_strips l ≡ true → all_of few_strips l ≡ true
+  live_few : (l : List Strips) → all_of shaped_strips l ≡ true → all_of few_strips l ≡ true
   unfolding all_of shaped_strips
-  live-few [] h = refl
-  live-few (x ∷ l) h =
-      rw (few-at x.known (left-of (shaped_strips x) (all_of shaped_strips l) h)) (live-few l (right_of (shaped_strips x) (all_of shaped_strips l) h))
+  live_few [] h = refl
+  live_few (x ∷ l) h =
+      rw (few_at x.known (left_of_lem (shaped_strips x) (all_of shaped_strips l) h)) (live_few l (right_of (shaped_strips x) (all_of shaped_strips l) h))
     where
-      few-at : (b : Bool) →
+      few_at : (b : Bool) →
           (not b || every (leb x.count 8 ∷ all_of good_strip (take x.count x.list) ∷ no_twice same_number (take x.count x.list) ∷ [])) ≡ true →
           (not b || leb x.count 8) ≡ true
-      few-at true q = every-at _ 0 q
-      few-at false q = refl
+      few_at true q = every-at _ 0 q
+      few_at false q = refl
 
   -- its lists are within their places
   pub places : Places p s
   places =
       record {
-        line = line-few;
-        turns = turns-few;
-        encoders = turns-wired;
-        silenced = silenced-few;
-        live = live-few s.live.banks live-is;
+        line = line_few;
+        turns = turns_few;
+        encoders = turns_wired;
+        silenced = silenced_few;
+        live = live_few s.live.banks live_is;
       }
 
 -- ── and back: a session within its places that is seen well shaped is so ──
 
-strips-again : (s : Strips) → few_strips s ≡ true → WellStrips (strips_or (seen_strips s)) → shaped_strips s ≡ true
+strips_again : (s : Strips) → few_strips s ≡ true → WellStrips (strips_or (seen_strips s)) → shaped_strips s ≡ true
 unfolding shaped_strips seen_strips every
-strips-again s h w = at s.known h w
+strips_again s h w = at s.known h w
   where
     at : (b : Bool) → (not b || leb s.count 8) ≡ true → WellStrips (strips_or (strips_if b (take s.count s.list))) →
         (not b || every (leb s.count 8 ∷ all_of good_strip (take s.count s.list) ∷ no_twice same_number (take s.count s.list) ∷ [])) ≡ true
     at true q v = rw (q, v.good, v.once)
     at false q v = refl
 
-lives-again : (l : List Strips) → all_of few_strips l ≡ true → ((b : ℕ) → WellStrips (strips_or (get_or (map seen_strips l) b none))) → all_of shaped_strips l ≡ true
+lives_again : (l : List Strips) → all_of few_strips l ≡ true → ((b : ℕ) → WellStrips (strips_or (get_or (map seen_strips l) b none))) → all_of shaped_strips l ≡ true
 unfolding all_of
-lives-again [] h w = refl
-lives-again (x ∷ l) h w =
-    rw (strips-again x (left-of (few_strips x) (all_of few_strips l) h) (w 0)) (lives-again l (right_of (few_strips x) (all_of few_strips l) h) (λ b. w (suc b)))
+lives_again [] h w = refl
+lives_again (x ∷ l) h w =
+    rw (strips_again x (left_of_lem (few_strips x) (all_of few_strips l) h) (w 0)) (lives_again l (right_of (few_strips x) (all_of few_strips l) h) (λ b. w (suc b)))
 
 pub shaped-again : (p : List ℕ) (s : Session) → Well p (seen p s) → Places p s → well_shaped p s ≡ true
 unfolding well_shaped shaped_line shaped_turns shaped_silenced seen every
@@ -155,7 +155,7 @@ shaped-again p s w f =
       le-leb s.line.count 16 f.line,
       w.line.low,
       w.line.once,
-      lives-again s.live.banks f.live w.lives,
+      lives_again s.live.banks f.live w.lives,
       le-leb s.turns.count 136 f.turns,
       f.encoders,
       w.sums,

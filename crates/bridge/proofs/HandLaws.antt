@@ -20,14 +20,14 @@ use Rattle.base.specs.RangeLaws.{and_left, every-at}
 use Rattle.base.specs.Keyed.{find, any_of, all_of, no_twice}
 use Rattle.base.specs.KeyedLaws as keyed
 use Rattle.base.specs.BesideLaws as side
-use Rattle.base.specs.Pigeon.{left-of, right_of}
+use Rattle.base.specs.Pigeon.{left_of_lem, right_of}
 use Rattle.base.specs.Tail.{at_front}
 use Rattle.base.specs.declared.Place.{Place}
 use Rattle.base.specs.declared.Place.TheVariants as place
 use Rattle.profile.specs.Profile.{records, verdict}
-use Rattle.profile.specs.Accepted.{few-records}
+use Rattle.profile.specs.Accepted.{few_records}
 use Rattle.lookup.specs.Lookup.{dest_at, found_at, encoder_of, precede, encoder_place}
-use Rattle.lookup.specs.LookupLaws.{encoder-place-found, encoder-place-is}
+use Rattle.lookup.specs.LookupLaws.{encoder_place_found, encoder-place-is}
 use Rattle.lookup.specs.View.{view_of}
 use Rattle.lookup.specs.declared.Found.{Found}
 use Rattle.lookup.specs.declared.Found.TheVariants as found
@@ -56,58 +56,58 @@ use Rattle.delivery.specs.declared.Outcome.TheVariants as outcome
 use Rattle.after.specs.After.{kept_with, KeepsPlaces, with_turns}
 use Rattle.after.specs.After as after
 use Rattle.bounds.specs.Well.{Well}
-use Rattle.bounds.specs.Whole.{well-seen}
-use Rattle.bounds.proofs.WellStep.{step-well}
+use Rattle.bounds.specs.Whole.{well_seen}
+use Rattle.bounds.proofs.WellStep.{step_well}
 use Rattle.bridge.specs.Bridge.{IsCurrent, moved_at, turned_at, Moves, Turns as TurnsAs}
-use Rattle.bridge.proofs.StepLaws.{did, room-for, undone-delivers, done-delivers}
+use Rattle.bridge.proofs.StepLaws.{did, room_for_lem, undone_delivers, done_delivers}
 use Rattle.bridge.proofs.Fit.{places, shaped-again}
 
 -- ── the current bank ──
 
 -- the definition's rig there is what a handler is handed
-pub rig-is : (p : List ℕ) (s : Session) (b : ℕ) (c : Current) → IsCurrent s.live b c → rig_at (view_of p) (seen p s) b ≡ rig_in p c
+pub rig_is : (p : List ℕ) (s : Session) (b : ℕ) (c : Current) → IsCurrent s.live b c → rig_at (view_of p) (seen p s) b ≡ rig_in p c
 unfolding seen
-rig-is p s b c i = rw (i.bank, i.strips)
+rig_is p s b c i = rw (i.bank, i.strips)
 
 -- what stands past the live lists is not known
 abbrev past : Strips
 past = record { known = false; list = []; count = 0 }
 
-list-seen : (l : List Strips) (b : ℕ) → seen_strips (get_or l b past) ≡ get_or (map seen_strips l) b none
+list_seen : (l : List Strips) (b : ℕ) → seen_strips (get_or l b past) ≡ get_or (map seen_strips l) b none
 unfolding seen_strips
-list-seen [] b = refl
-list-seen (x ∷ l) zero = refl
-list-seen (x ∷ l) (suc b) = list-seen l b
+list_seen [] b = refl
+list_seen (x ∷ l) zero = refl
+list_seen (x ∷ l) (suc b) = list_seen l b
 
-list-few : (l : List Strips) (b : ℕ) → all_of shaped_strips l ≡ true → (get_or l b past).known ≡ true → (get_or l b past).count ≤ 8
+list_few : (l : List Strips) (b : ℕ) → all_of shaped_strips l ≡ true → (get_or l b past).known ≡ true → (get_or l b past).count ≤ 8
 unfolding all_of shaped_strips
-list-few [] b e k = absurd (true≢false (sym k))
-list-few (x ∷ l) zero e k = few-at x.known k (left-of (shaped_strips x) (all_of shaped_strips l) e)
+list_few [] b e k = absurd (true≢false (sym k))
+list_few (x ∷ l) zero e k = few_at x.known k (left_of_lem (shaped_strips x) (all_of shaped_strips l) e)
   where
-    few-at : (b : Bool) → b ≡ true →
+    few_at : (b : Bool) → b ≡ true →
         (not b || every (leb x.count 8 ∷ all_of good_strip (take x.count x.list) ∷ no_twice same_number (take x.count x.list) ∷ [])) ≡ true →
         x.count ≤ 8
-    few-at true q h = leb-true x.count 8 (every-at _ 0 h)
-    few-at false q h = absurd (true≢false (sym q))
-list-few (x ∷ l) (suc b) e k = list-few l b (right_of (shaped_strips x) (all_of shaped_strips l) e) k
+    few_at true q h = leb-true x.count 8 (every-at _ 0 h)
+    few_at false q h = absurd (true≢false (sym q))
+list_few (x ∷ l) (suc b) e k = list_few l b (right_of (shaped_strips x) (all_of shaped_strips l) e) k
 
 module _ (l : Live) (b : ℕ) (s : Strips) (at : s ≡ strips_at b l) where
   at_seen : seen_strips s ≡ get_or (map seen_strips l.banks) b none
   unfolding strips_at
-  at_seen = rw at (list-seen l.banks b)
+  at_seen = rw at (list_seen l.banks b)
 
-  pub known-bank : all_of shaped_strips l.banks ≡ true → s.known ≡ true → IsCurrent l b (record { bank = b; strips = s })
+  pub known_bank : all_of shaped_strips l.banks ≡ true → s.known ≡ true → IsCurrent l b (record { bank = b; strips = s })
   unfolding strips_at
-  known-bank e k =
+  known_bank e k =
       record {
         bank = refl;
         strips = at_seen;
-        few = rw at (list-few l.banks b e (ap (λ (x : Strips). x.known) (sym at) ∙ k));
+        few = rw at (list_few l.banks b e (ap (λ (x : Strips). x.known) (sym at) ∙ k));
       }
 
-  pub unknown-bank : s.known ≡ false → IsCurrent l b (record { bank = b; strips = record { known = s.known; list = s.list; count = 0 } })
+  pub unknown_bank : s.known ≡ false → IsCurrent l b (record { bank = b; strips = record { known = s.known; list = s.list; count = 0 } })
   unfolding seen_strips
-  unknown-bank k = record { bank = refl; strips = none_seen s.known refl ∙ at_seen; few = omega arith }
+  unknown_bank k = record { bank = refl; strips = none_seen s.known refl ∙ at_seen; few = omega arith }
     where
       none_seen : (y : Bool) → s.known ≡ y → seen_strips (record { known = s.known; list = s.list; count = 0 }) ≡ seen_strips s
       none_seen true q = absurd (true≢false (sym q ∙ k))
@@ -122,22 +122,22 @@ sub_small a b m h k = go (ltb a b) refl
     go true e = let l : a < b = ltb-true a b e in omega arith
     go false e = omega arith
 
-sum-small : (x y : ℤ) (m n : ℕ) → nat_abs x ≤ m → nat_abs y ≤ n → nat_abs (x +ℤ y) ≤ m + n
-sum-small (pos a) (pos b) m n h k = omega arith
-sum-small (pos a) (negsuc b) m n h k = sub_small a (suc b) (m + n) (omega arith) (omega arith)
-sum-small (negsuc a) (pos b) m n h k = sub_small b (suc a) (m + n) (omega arith) (omega arith)
-sum-small (negsuc a) (negsuc b) m n h k = omega arith
+sum_small : (x y : ℤ) (m n : ℕ) → nat_abs x ≤ m → nat_abs y ≤ n → nat_abs (x +ℤ y) ≤ m + n
+sum_small (pos a) (pos b) m n h k = omega arith
+sum_small (pos a) (negsuc b) m n h k = sub_small a (suc b) (m + n) (omega arith) (omega arith)
+sum_small (negsuc a) (pos b) m n h k = sub_small b (suc a) (m + n) (omega arith) (omega arith)
+sum_small (negsuc a) (negsuc b) m n h k = omega arith
 
-small-fits : (z : ℤ) → nat_abs z ≤ 2000000 → SFits w32 z
-small-fits (pos n) h = record { sfits = omega arith }
-small-fits (negsuc n) h = record { sfits = omega arith }
+small_fits : (z : ℤ) → nat_abs z ≤ 2000000 → SFits w32 z
+small_fits (pos n) h = record { sfits = omega arith }
+small_fits (negsuc n) h = record { sfits = omega arith }
 
 range_small : (z : ℤ) → in_range z ≡ true → nat_abs z ≤ 1000000
 range_small (pos n) e = leb-true n 1000000 e
 range_small (negsuc n) e = let h : n ≤ 999999 = leb-true n 999999 (and_left (leb n 999999) true e) in omega arith
 
-range-fits : (x y : ℤ) → in_range x ≡ true → in_range y ≡ true → SFits w32 (x +ℤ y)
-range-fits x y h k = small-fits (x +ℤ y) (sum-small x y 1000000 1000000 (range_small x h) (range_small y k))
+range_fits : (x y : ℤ) → in_range x ≡ true → in_range y ≡ true → SFits w32 (x +ℤ y)
+range_fits x y h k = small_fits (x +ℤ y) (sum_small x y 1000000 1000000 (range_small x h) (range_small y k))
 
 unfound : {A : Type 0} (f : A → Bool) (l : List A) → any_of f l ≡ false → find f l ≡ none
 unfolding any_of find
@@ -149,35 +149,35 @@ unfound f (x ∷ l) e = go (f x) e (unfound f l)
     go false q h = h q
 
 module _ (p : List ℕ) (t : Turns) (lk : length t.records ≡ 136) (ln : length t.sums ≡ 136) (few : t.count ≤ 136) where
-  upto-records : length (take t.count t.records) ≡ t.count
-  upto-records = length-take-le t.count t.records (omega arith)
+  upto_records : length (take t.count t.records) ≡ t.count
+  upto_records = length-take-le t.count t.records (omega arith)
 
-  upto-sums : length (take t.count t.sums) ≡ t.count
-  upto-sums = length-take-le t.count t.sums (omega arith)
+  upto_sums : length (take t.count t.sums) ≡ t.count
+  upto_sums = length-take-le t.count t.sums (omega arith)
 
-  pub sums-fit : (delta : ℤ) → in_range delta ≡ true → all_of good_turn (seen_turns p t) ≡ true → SumsFit t.sums t.count delta
-  sums-fit delta small good i h =
+  pub sums_fit : (delta : ℤ) → in_range delta ≡ true → all_of good_turn (seen_turns p t) ≡ true → SumsFit t.sums t.count delta
+  sums_fit delta small good i h =
       let same : all_of good_turn (seen_turns p t) ≡ all_of in_range (take t.count t.sums) =
-      side.beside-all (turn_at p) good_turn in_range (λ x y. refl) (take t.count t.records) (take t.count t.sums) (omega (arith, upto-records, upto-sums)) in
-      range-fits (get_or t.sums i (pos 0)) delta (keyed.each in_range (pos 0) t.sums t.count i (omega arith) h (sym same ∙ good)) small
+      side.beside-all (turn_at p) good_turn in_range (λ x y. refl) (take t.count t.records) (take t.count t.sums) (omega (arith, upto_records, upto_sums)) in
+      range_fits (get_or t.sums i (pos 0)) delta (keyed.each in_range (pos 0) t.sums t.count i (omega arith) h (sym same ∙ good)) small
 
   -- a turn that is not declined has a place
-  pub turn-room : (k : ℕ) (delta : ℤ) → all_of (is_encoder p) (take t.count t.records) ≡ true → is_encoder p k ≡ true → SumsFit t.sums t.count delta →
+  pub turn_room : (k : ℕ) (delta : ℤ) → all_of (is_encoder p) (take t.count t.records) ≡ true → is_encoder p k ≡ true → SumsFit t.sums t.count delta →
       declined_by (find (is_dest (dest_at p k)) (seen_turns p t)) delta (seen_turns p t) ≡ 0 → RoomToTurn p t.records t.sums t.count k delta
-  turn-room k delta wired encoder fit q =
+  turn_room k delta wired encoder fit q =
       record { count = few; encoders = wired; encoder = encoder; place = there (any_of (wires_to p (dest_at p k)) (take t.count t.records)) refl; sums = fit }
     where
       any-is : any_of (is_dest (dest_at p k)) (seen_turns p t) ≡ any_of (wires_to p (dest_at p k)) (take t.count t.records)
       any-is =
           side.beside-any (turn_at p) (is_dest (dest_at p k)) (wires_to p (dest_at p k)) (λ x y. refl) (take t.count t.records) (take t.count t.sums)
-          (omega (arith, upto-records, upto-sums))
+          (omega (arith, upto_records, upto_sums))
 
-      how-many : length (seen_turns p t) ≡ t.count
-      how-many = side.beside-length (turn_at p) (take t.count t.records) (take t.count t.sums) (omega (arith, upto-records, upto-sums)) ∙ upto-records
+      how_many : length (seen_turns p t) ≡ t.count
+      how_many = side.beside-length (turn_at p) (take t.count t.records) (take t.count t.sums) (omega (arith, upto_records, upto_sums)) ∙ upto_records
 
       fewer : (b : Bool) → leb 136 (length (seen_turns p t)) ≡ b → pick {A = ℕ} b 13 0 ≡ 0 → ltb t.count 136 ≡ true
       fewer true i j = absurd (omega arith)
-      fewer false i j = lt-ltb t.count 136 (omega (arith, leb-false 136 (length (seen_turns p t)) i, how-many))
+      fewer false i j = lt-ltb t.count 136 (omega (arith, leb-false 136 (length (seen_turns p t)) i, how_many))
 
       there : (b : Bool) → any_of (wires_to p (dest_at p k)) (take t.count t.records) ≡ b → pick b true (ltb t.count 136) ≡ true
       there true i = refl
@@ -192,8 +192,8 @@ module _ (p : List ℕ) (bank number k : ℕ) (q : encoder_place p bank number �
   pub place-encoder : is_encoder p k ≡ true
   place-encoder = let h = encoder-place-is p bank number k q in rw (lt-ltb k (records p) h.0, h.1)
 
-  pub place-low : verdict p ≡ 0 → k < 65536
-  place-low accepted = omega (arith, (encoder-place-is p bank number k q).0, few-records p accepted)
+  pub place_low : verdict p ≡ 0 → k < 65536
+  place_low accepted = omega (arith, (encoder-place-is p bank number k q).0, few_records p accepted)
 
 module _ (p : List ℕ) (s : Session) (ch : ℕ) (delta : ℤ) where
   abbrev turns : List Turn
@@ -212,7 +212,7 @@ module _ (p : List ℕ) (s : Session) (ch : ℕ) (delta : ℤ) where
     unfolding step refusal turn_refusal encoder encoder_dest act seen
     encoder-ends f q =
         at (eqb (refusal_to wired delta turns) 0)
-        ∙ ap (λ (x : Found). ends (eqb (refusal_to x delta turns) 0) x) (sym (encoder-place-found p s.bank (ch + 1)) ∙ ap (found_at p) q)
+        ∙ ap (λ (x : Found). ends (eqb (refusal_to x delta turns) 0) x) (sym (encoder_place_found p s.bank (ch + 1)) ∙ ap (found_at p) q)
       where
         wired : Found
         wired = precede (encoder_of p 255 (ch + 1)) (encoder_of p s.bank (ch + 1))
@@ -250,7 +250,7 @@ module _ (p : List ℕ) (s : Session) (ch : ℕ) (delta : ℤ) where
         let z : seen p (with_turns s after) ≡ leaves (found_at p (place.At k)) =
         ap (λ (l : List Turn). kept_with (with_desk (seen p s) (desk s.marks s.moves (seen_line s.line) l)) s.opened) sums in
         let w : Well p (step (view_of p) (seen p s) (turned_at now ch delta) answers).kept =
-        step-well p accepted (seen p s) (well-seen p s long e) (turned_at now ch delta) (low, small) answers in
+        step_well p accepted (seen p s) (well_seen p s long e) (turned_at now ch delta) (low, small) answers in
         let v : Well p (seen p (with_turns s after)) =
         subst (λ (a : Kept). Well p a) (sym z) (subst (λ (a : Stepped). Well p a.kept) y w) in
         let f = places p s e in
@@ -306,7 +306,7 @@ module _ (p : List ℕ) (s : Session) (ch : ℕ) (value : Float) (answers : List
   fader-is : fader (rig_at (view_of p) (seen p s) s.bank) ch value (seen p s).desk (start answers s.opened) ≡ got left line
   unfolding fader seen
   fader-is =
-      ap (λ (r : Rig). fader r ch value (seen p s).desk (start answers s.opened)) (rig-is p s s.bank c i)
+      ap (λ (r : Rig). fader r ch value (seen p s).desk (start answers s.opened)) (rig_is p s s.bank c i)
       ∙ ap (λ (n : ℕ). fader_to (destination (rig_in p c) (ch + 1)) (n * 16 + ch) ch value (seen p s).desk (start answers s.opened)) i.bank
       ∙ sym ran
 
@@ -327,9 +327,9 @@ module _ (p : List ℕ) (s : Session) (ch : ℕ) (value : Float) (answers : List
 
   module _ (accepted : verdict p ≡ 0) (e : well_shaped p s ≡ true) (long : length s.opened ≡ 16) (low : ch < 16) where
     -- a line that goes on has room, whatever the event's time is
-    pub move-room : (io : Io) (cs ms : List ℕ) → shown answers io cs ms ≡ line → HasRoom io
-    move-room io cs ms q =
-        room-for p accepted (seen p s) (well-seen p s long e) (moved_at value ch value) answers (free value) io cs ms
+    pub move_room : (io : Io) (cs ms : List ℕ) → shown answers io cs ms ≡ line → HasRoom io
+    move_room io cs ms q =
+        room_for_lem p accepted (seen p s) (well_seen p s long e) (moved_at value ch value) answers (free value) io cs ms
         (q ∙ sym (ap (λ (g : Got Left). g.talk) (did-is value)))
 
     module _ (o : Outcome) (ms₀ cs₀ ms₁ cs₁ : List ℕ) (ho : o ≡ outcome_of (end_of line false)) (hm : ms₁ ≡ messages_after (end_of line false) ms₀)
@@ -337,7 +337,7 @@ module _ (p : List ℕ) (s : Session) (ch : ℕ) (value : Float) (answers : List
       -- one that waits or is refused
       pub unmoved : is_done (end_of line false) ≡ false → Moves p s ch value answers ms₀ cs₀ (record { outcome = o; session = s; changed = false }) ms₁ cs₁
       unmoved q now =
-          undone-delivers p accepted s (well-seen p s long e) (moved_at now ch value) answers (free now) o ms₀ cs₀ ms₁ cs₁ (ap is_done (end_is now) ∙ q)
+          undone_delivers p accepted s (well_seen p s long e) (moved_at now ch value) answers (free now) o ms₀ cs₀ ms₁ cs₁ (ap is_done (end_is now) ∙ q)
           (ho ∙ ap outcome_of (sym (end_is now))) (hm ∙ ap (λ (x : Ended). messages_after x ms₀) (sym (end_is now)))
           (hc ∙ ap (λ (x : Ended). calls_after x cs₀) (sym (end_is now)))
 
@@ -345,7 +345,7 @@ module _ (p : List ℕ) (s : Session) (ch : ℕ) (value : Float) (answers : List
       pub moved : is_done (end_of line false) ≡ true → (x : Session) → after.Fades s v (s.bank * 16 + ch) ch value line.opened x → KeepsPlaces s x →
           Moves p s ch value answers ms₀ cs₀ (record { outcome = o; session = x; changed = true }) ms₁ cs₁
       moved q x fades keeps now =
-          done-delivers p accepted s (well-seen p s long e) (moved_at now ch value) answers (free now) low o x ms₀ cs₀ ms₁ cs₁ (ap is_done (end_is now) ∙ q)
+          done_delivers p accepted s (well_seen p s long e) (moved_at now ch value) answers (free now) low o x ms₀ cs₀ ms₁ cs₁ (ap is_done (end_is now) ∙ q)
           (fades p ∙ ap (λ (g : Got Left). kept_with g.value g.talk.opened) (sym (did-is now))) (keeps p (places p s e))
           (ho ∙ ap outcome_of (sym (end_is now))) (hm ∙ ap (λ (y : Ended). messages_after y ms₀) (sym (end_is now)))
           (hc ∙ ap (λ (y : Ended). calls_after y cs₀) (sym (end_is now)))

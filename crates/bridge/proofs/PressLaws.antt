@@ -22,14 +22,14 @@ use Rattle.protocol.specs.declared.Found.TheVariants as channel
 use Rattle.protocol.specs.declared.Event.{Event}
 use Rattle.protocol.specs.declared.Event.TheVariants as event
 use Rattle.profile.specs.Profile.{bank_count, verdict}
-use Rattle.profile.specs.Accepted.{few-banks}
+use Rattle.profile.specs.Accepted.{few_banks}
 use Rattle.lookup.specs.Lookup.{select_of}
 use Rattle.drivers.specs.Talk.{Talk}
 use Rattle.drivers.specs.Shown.{shown}
 use Rattle.drivers.specs.declared.Io.{Io}
 use Rattle.drivers.specs.declared.Level.{Level}
 use Rattle.session.specs.Session.{hushed_up_to, targets_of}
-use Rattle.session.specs.SessionLaws.{targets-seen}
+use Rattle.session.specs.SessionLaws.{targets_seen}
 use Rattle.session.specs.declared.Lamps.{Lamps}
 use Rattle.session.specs.declared.Moves.{Moves}
 use Rattle.event.specs.declared.Input.{Input}
@@ -50,26 +50,26 @@ use Rattle.bridge.specs.declared.which.Press.TheVariants as press
 -- ── the channel ──
 
 -- a base that has the note has it among its eight
-channel-by : (note c : ℕ) (b : Place) → base_of note ≡ b → channel_by note b ≡ channel.At c → c < 8
+channel_by_lem : (note c : ℕ) (b : Place) → base_of note ≡ b → channel_by note b ≡ channel.At c → c < 8
 unfolding base_of
-channel-by note c (place.At k) e q =
+channel_by_lem note c (place.At k) e q =
     let w = first-at (is_of_base note) 4 k e in
     let low : note < get_or channel_bases k 0 + 8 = ltb-true _ _ (and_right (leb (get_or channel_bases k 0) note) _ w.1) in
     let is : note - get_or channel_bases k 0 ≡ c = cc in
     omega arith
-channel-by note c place.Nothing e q = let z : ◌≡◌ {A = Bool} true false = cc in absurd (true≢false z)
+channel_by_lem note c place.Nothing e q = let z : ◌≡◌ {A = Bool} true false = cc in absurd (true≢false z)
 
-low-channel : (note : ℕ) (f : Found) → channel_of note ≡ f → or_first f < 8
+low_channel_lem : (note : ℕ) (f : Found) → channel_of note ≡ f → or_first f < 8
 unfolding channel_of
-low-channel note (channel.At c) e = channel-by note c (base_of note) refl e
-low-channel note channel.Nothing e = omega arith
+low_channel_lem note (channel.At c) e = channel_by_lem note c (base_of note) refl e
+low_channel_lem note channel.Nothing e = omega arith
 
 module _ (note : ℕ) (f : Found) (e : f ≡ channel_of note) where
   pub at-channel : (c : ℕ) → f ≡ channel.At c → (c ≡ or_first (channel_of note)) × (c < 8)
-  at-channel c q = (rw (← e, q), low-channel note (channel.At c) (sym e ∙ q))
+  at-channel c q = (rw (← e, q), low_channel_lem note (channel.At c) (sym e ∙ q))
 
-  pub no-channel : f ≡ channel.Nothing → (0 ≡ or_first (channel_of note)) × (0 < 8)
-  no-channel q = (rw (← e, q), omega arith)
+  pub no_channel : f ≡ channel.Nothing → (0 ≡ or_first (channel_of note)) × (0 < 8)
+  no_channel q = (rw (← e, q), omega arith)
 
 -- ── kinds side by side ──
 
@@ -87,71 +87,71 @@ walk-kind k a (inr b) = inr (two 8 k b.0 b.1)
 -- ── the bank after a press ──
 
 module _ (p : List ℕ) (bank note k : ℕ) (e : k ≡ kind_of note) where
-  pub bank-right : (k ≡ 5) ⊎ (k ≡ 9) → next_bank true (bank_count p) bank ≡ bank_after p bank note
+  pub bank_right : (k ≡ 5) ⊎ (k ≡ 9) → next_bank true (bank_count p) bank ≡ bank_after p bank note
   unfolding bank_after
-  bank-right (inl q) = rw (← e, q)
-  bank-right (inr q) = rw (← e, q)
+  bank_right (inl q) = rw (← e, q)
+  bank_right (inr q) = rw (← e, q)
 
-  pub bank-left : (k ≡ 4) ⊎ (k ≡ 8) → next_bank false (bank_count p) bank ≡ bank_after p bank note
+  pub bank_left : (k ≡ 4) ⊎ (k ≡ 8) → next_bank false (bank_count p) bank ≡ bank_after p bank note
   unfolding bank_after
-  bank-left (inl q) = rw (← e, q)
-  bank-left (inr q) = rw (← e, q)
+  bank_left (inl q) = rw (← e, q)
+  bank_left (inr q) = rw (← e, q)
 
-  pub bank-selected : (ch : ℕ) → ch ≡ or_first (channel_of note) → k ≡ 3 → selected_by p bank ch ≡ bank_after p bank note
+  pub bank_selected : (ch : ℕ) → ch ≡ or_first (channel_of note) → k ≡ 3 → selected_by p bank ch ≡ bank_after p bank note
   unfolding bank_after
-  bank-selected ch c q = rw (← e, q, ← c)
+  bank_selected ch c q = rw (← e, q, ← c)
 
-  pub bank-stays : ((k ≡ 5) ⊎ (k ≡ 9) → ⊥) → ((k ≡ 4) ⊎ (k ≡ 8) → ⊥) → (k ≡ 3 → ⊥) → bank ≡ bank_after p bank note
+  pub bank_stays : ((k ≡ 5) ⊎ (k ≡ 9) → ⊥) → ((k ≡ 4) ⊎ (k ≡ 8) → ⊥) → (k ≡ 3 → ⊥) → bank ≡ bank_after p bank note
   unfolding bank_after
-  bank-stays a b c =
+  bank_stays a b c =
       rw (← e, ne_eqb k 5 (λ q. a (inl q)), ne_eqb k 9 (λ q. a (inr q)), ne_eqb k 4 (λ q. b (inl q)), ne_eqb k 8 (λ q. b (inr q)), ne_eqb k 3 c)
 
   -- for an arrow of the scenes it stays
-  bank-paged : (k ≡ 6) ⊎ (k ≡ 7) → bank_after p bank note ≡ bank
+  bank_paged : (k ≡ 6) ⊎ (k ≡ 7) → bank_after p bank note ≡ bank
   unfolding bank_after
-  bank-paged (inl q) = rw (← e, q)
-  bank-paged (inr q) = rw (← e, q)
+  bank_paged (inl q) = rw (← e, q)
+  bank_paged (inr q) = rw (← e, q)
 
-  bank-rec : k ≡ 0 → bank_after p bank note ≡ bank
+  bank_rec : k ≡ 0 → bank_after p bank note ≡ bank
   unfolding bank_after
-  bank-rec q = rw (← e, q)
+  bank_rec q = rw (← e, q)
 
-  bank-walked : ((k ≡ 4) ⊎ (k ≡ 5)) ⊎ ((k ≡ 8) ⊎ (k ≡ 9)) → bank_after p bank note ≡ next_bank (eqb k 5 || eqb k 9) (bank_count p) bank
+  bank_walked : ((k ≡ 4) ⊎ (k ≡ 5)) ⊎ ((k ≡ 8) ⊎ (k ≡ 9)) → bank_after p bank note ≡ next_bank (eqb k 5 || eqb k 9) (bank_count p) bank
   unfolding bank_after
-  bank-walked (inl (inl q)) = rw (← e, q)
-  bank-walked (inl (inr q)) = rw (← e, q)
-  bank-walked (inr (inl q)) = rw (← e, q)
-  bank-walked (inr (inr q)) = rw (← e, q)
+  bank_walked (inl (inl q)) = rw (← e, q)
+  bank_walked (inl (inr q)) = rw (← e, q)
+  bank_walked (inr (inl q)) = rw (← e, q)
+  bank_walked (inr (inr q)) = rw (← e, q)
 
 -- so a walk is to the next one on its side
-pub walk-to : (p : List ℕ) (bank note k to : ℕ) → k ≡ kind_of note → 4 ≤ k → (k < 6) ⊎ ((8 ≤ k) × (k < 10)) → to ≡ bank_after p bank note →
+pub walk_to : (p : List ℕ) (bank note k to : ℕ) → k ≡ kind_of note → 4 ≤ k → (k < 6) ⊎ ((8 ≤ k) × (k < 10)) → to ≡ bank_after p bank note →
     to ≡ next_bank (eqb k 5 || eqb k 9) (bank_count p) bank
-walk-to p bank note k to e a b q = q ∙ bank-walked p bank note k e (walk-kind k a b)
+walk_to p bank note k to e a b q = q ∙ bank_walked p bank note k e (walk-kind k a b)
 
 -- a bank of an accepted profile is one of sixteen
-pub low-bank : (p : List ℕ) (bank : ℕ) → verdict p ≡ 0 → bank < bank_count p → bank < 16
-low-bank p bank ok h = let few = few-banks p ok in omega arith
+pub low_bank : (p : List ℕ) (bank : ℕ) → verdict p ≡ 0 → bank < bank_count p → bank < 16
+low_bank p bank ok h = let few = few_banks p ok in omega arith
 
 -- ── the targets that a press adds ──
 
 module _ (p : List ℕ) (here : Current) (l : Lamps) (note : ℕ) (ts : List ℕ) (k : ℕ) (e : k ≡ kind_of note) where
   module _ (ch : ℕ) (c : ch ≡ or_first (channel_of note)) where
-    pub adds-muted : k ≡ 2 → length (added_by_mute (rig_in p here) (ch + 1) ts) ≡ length (added_of p here l note ts)
+    pub adds_muted : k ≡ 2 → length (added_by_mute (rig_in p here) (ch + 1) ts) ≡ length (added_of p here l note ts)
     unfolding added_of
-    adds-muted q = rw (← e, q, ← c)
+    adds_muted q = rw (← e, q, ← c)
 
-    pub adds-soloed : k ≡ 1 → length (added_by_solo (rig_in p here) (ch + 1) l ts) ≡ length (added_of p here l note ts)
+    pub adds_soloed : k ≡ 1 → length (added_by_solo (rig_in p here) (ch + 1) l ts) ≡ length (added_of p here l note ts)
     unfolding added_of
-    adds-soloed q = rw (← e, q, ← c)
+    adds_soloed q = rw (← e, q, ← c)
 
-    adds-hushed : (k ≡ 1) ⊎ (k ≡ 2) → added_of p here l note ts ≡ adds_at (eqb k 1) (rig_in p here) (ch + 1) l ts
+    adds_hushed : (k ≡ 1) ⊎ (k ≡ 2) → added_of p here l note ts ≡ adds_at (eqb k 1) (rig_in p here) (ch + 1) l ts
     unfolding added_of
-    adds-hushed (inl q) = rw (← e, q, ← c)
-    adds-hushed (inr q) = rw (← e, q, ← c)
+    adds_hushed (inl q) = rw (← e, q, ← c)
+    adds_hushed (inr q) = rw (← e, q, ← c)
 
     -- so there is room for what a mute or a solo adds
-    pub hush-room : (n : ℕ) → 1 ≤ k → k < 3 → n + length (added_of p here l note ts) ≤ 256 → n + length (adds_at (eqb k 1) (rig_in p here) (ch + 1) l ts) ≤ 256
-    hush-room n a b h = rw (← adds-hushed (two 1 k a b)) h
+    pub hush_room : (n : ℕ) → 1 ≤ k → k < 3 → n + length (added_of p here l note ts) ≤ 256 → n + length (adds_at (eqb k 1) (rig_in p here) (ch + 1) l ts) ≤ 256
+    hush_room n a b h = rw (← adds_hushed (two 1 k a b)) h
 
   pub adds_none : (k ≡ 2 → ⊥) → (k ≡ 1 → ⊥) → 0 ≡ length (added_of p here l note ts)
   unfolding added_of
@@ -216,7 +216,7 @@ module _ (p : List ℕ) (here there : Current) (l : Lamps) (n : ℕ) (ts : List 
     pub other-rec : k ≡ 0 → there.bank ≡ bank_after p here.bank note → PressesHere (rec ch) p here l n ts home now t x u →
         PressesThere (other_of p here.bank note) p here there l n ts home now t x u
     other-rec q to f =
-        ((λ rig_at m s w a b h. rw (← e, q, ← c) (f.0 rig_at m s w (same_home p here there home l m (to ∙ bank-rec p here.bank note k e q) h))), f.1)
+        ((λ rig_at m s w a b h. rw (← e, q, ← c) (f.0 rig_at m s w (same_home p here there home l m (to ∙ bank_rec p here.bank note k e q) h))), f.1)
 
     pub other-select : k ≡ 3 → PressesThere (select_as (select_of p here.bank) ch) p here there l n ts home now t x u →
         PressesThere (other_of p here.bank note) p here there l n ts home now t x u
@@ -238,14 +238,14 @@ module _ (p : List ℕ) (here there : Current) (l : Lamps) (n : ℕ) (ts : List 
 
   module _ (few : n ≤ 256) (all : length ls ≡ 256) where
     seen : targets_of (hushed_up_to n ts ls) ≡ take n ts
-    seen = targets-seen n ts ls (omega arith)
+    seen = targets_seen n ts ls (omega arith)
 
     pub pages : 6 ≤ k → k < 8 → there.bank ≡ bank_after p here.bank note → PressesHere (page (eqb k 7)) p here l n (take n ts) home now t x u → Done
     unfolding button
     pages a b to f =
         let w = two 6 k a b in (
           (λ rig_at m i j h. rw (f.1, ← e, page-press (or_first (channel_of note)) _ t k w)
-              (f.0 rig_at m (hushed_up_to n ts ls) seen (same_home p here there home l m (to ∙ bank-paged p here.bank note k e w) h))),
+              (f.0 rig_at m (hushed_up_to n ts ls) seen (same_home p here there home l m (to ∙ bank_paged p here.bank note k e w) h))),
           rw f.1 few,
         )
 
@@ -282,27 +282,27 @@ unpressed (event.Button b) k = absurd (k b refl)
 unpressed event.Other k = refl
 
 module _ (w : Input) (m : Event) (e : w ≡ input.Midi m) where
-  pub hand-fader : (ch : ℕ) (value : Float) → m ≡ event.Fader ch value → hand.Fader ch value ≡ hand_of w
-  hand-fader ch value q = rw (e, q)
+  pub hand_fader : (ch : ℕ) (value : Float) → m ≡ event.Fader ch value → hand.Fader ch value ≡ hand_of w
+  hand_fader ch value q = rw (e, q)
 
   -- the number is read back from its bits
-  pub hand-encoder : (ch : ℕ) (delta back : ℤ) → m ≡ event.Encoder ch delta → back ≡ delta → hand.Encoder ch back ≡ hand_of w
-  hand-encoder ch delta back q r = rw (e, q, r)
+  pub hand_encoder : (ch : ℕ) (delta back : ℤ) → m ≡ event.Encoder ch delta → back ≡ delta → hand.Encoder ch back ≡ hand_of w
+  hand_encoder ch delta back q r = rw (e, q, r)
 
-  pub no-press : ((b : Button) → m ≡ event.Button b → ⊥) → press.None ≡ press_in w
-  no-press k = rw e (unpressed m k)
+  pub no_press : ((b : Button) → m ≡ event.Button b → ⊥) → press.None ≡ press_in w
+  no_press k = rw e (unpressed m k)
 
-  pub a-press : (b : Button) → m ≡ event.Button b → b.pressed ≡ true → press.Of b ≡ press_in w
-  a-press b q r = rw (e, q, r)
+  pub a_press : (b : Button) → m ≡ event.Button b → b.pressed ≡ true → press.Of b ≡ press_in w
+  a_press b q r = rw (e, q, r)
 
 -- ── the same by the press, if there is one ──
 
-pub bank-by : (p : List ℕ) (bank r : ℕ) (x : presses.Press) (b : Button) → x ≡ press.Of b → r ≡ bank_after p bank b.note → r ≡ bank_by p bank x
-bank-by p bank r x b q e = rw q e
+pub bank_by_lem : (p : List ℕ) (bank r : ℕ) (x : presses.Press) (b : Button) → x ≡ press.Of b → r ≡ bank_after p bank b.note → r ≡ bank_by p bank x
+bank_by_lem p bank r x b q e = rw q e
 
 module _ (p : List ℕ) (here : Current) (l : Lamps) (ts : List ℕ) (x : presses.Press) where
-  pub adds-by : (r : ℕ) (b : Button) → x ≡ press.Of b → r ≡ length (added_of p here l b.note ts) → r ≡ length (adds_by p here l x ts)
-  adds-by r b q e = rw q e
+  pub adds_by_lem : (r : ℕ) (b : Button) → x ≡ press.Of b → r ≡ length (added_of p here l b.note ts) → r ≡ length (adds_by p here l x ts)
+  adds_by_lem r b q e = rw q e
 
-  pub adds-nothing : x ≡ press.None → 0 ≡ length (adds_by p here l x ts)
-  adds-nothing q = rw q
+  pub adds_nothing : x ≡ press.None → 0 ≡ length (adds_by p here l x ts)
+  adds_nothing q = rw q

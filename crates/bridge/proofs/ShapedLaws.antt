@@ -12,7 +12,7 @@ use Rattle.session.specs.declared.Session.{Session}
 use Rattle.definition.specs.Shape.{well_shaped}
 use Rattle.definition.specs.Step.{Kept, fresh_kept, Stepped, seen}
 use Rattle.bounds.specs.Well.{Well}
-use Rattle.bounds.specs.WellStep.{fresh-well}
+use Rattle.bounds.specs.WellStep.{fresh_well}
 use Rattle.after.specs.After.{Places}
 use Rattle.delivery.specs.Delivery.{is_done}
 use Rattle.bridge.specs.Bridge.{Delivers}
@@ -27,13 +27,13 @@ unfolding seen fresh_session beside
 fresh-seen p = refl
 
 -- its lists are empty
-fresh-places : (p : List ℕ) → Places p fresh_session
+fresh_places : (p : List ℕ) → Places p fresh_session
 unfolding fresh_session all_of
-fresh-places p = record { line = omega arith; turns = omega arith; encoders = refl; silenced = omega arith; live = refl }
+fresh_places p = record { line = omega arith; turns = omega arith; encoders = refl; silenced = omega arith; live = refl }
 
 -- it is well shaped over an accepted profile, which has a bank for it
 pub fresh-shaped : (p : List ℕ) → verdict p ≡ 0 → well_shaped p fresh_session ≡ true
-fresh-shaped p ok = shaped-again p fresh_session (subst (λ (k : Kept). Well p k) (sym (fresh-seen p)) (fresh-well p ok)) (fresh-places p)
+fresh-shaped p ok = shaped-again p fresh_session (subst (λ (k : Kept). Well p k) (sym (fresh-seen p)) (fresh_well p ok)) (fresh_places p)
 
 -- ── an event ──
 

@@ -10,7 +10,7 @@ use lib.IntN.{ℤ}
 use lib.Ieee.{Float}
 use borrow.Author.Tests.{eqb-true, eqb-false, eq-eqb, ne_eqb, ltb-false}
 use Rattle.base.specs.Choice.{pick}
-use Rattle.base.specs.RangeLaws.{or-left-no, or-right-no}
+use Rattle.base.specs.RangeLaws.{or_left_no, or_right_no}
 use Rattle.base.specs.Keyed.{beside}
 use Rattle.base.specs.Tail.{at_front}
 use Rattle.protocol.specs.declared.Event.TheVariants as event
@@ -19,7 +19,7 @@ use Rattle.lookup.specs.View.{View, view_of}
 use Rattle.drivers.specs.Talk.{Stop, going, waits, declined, overrun, Talk, Got, got, start, next}
 use Rattle.drivers.specs.Shown.{shown, stop_in}
 use Rattle.drivers.specs.Bytes.{joined, encode}
-use Rattle.drivers.specs.BytesLaws.{calls-length, messages-length}
+use Rattle.drivers.specs.BytesLaws.{calls_length, messages_length}
 use Rattle.drivers.specs.declared.Io.{Io}
 use Rattle.drivers.specs.declared.Call.{Call}
 use Rattle.session.specs.Session.{Turn, targets_of}
@@ -40,8 +40,8 @@ use Rattle.definition.specs.Step.{Kept, kept, Left, rig_now, tick, tick_with, ov
 use Rattle.definition.specs.Whole.{whole, offered}
 use Rattle.bounds.specs.Room.{LowInput, FewOf}
 use Rattle.bounds.specs.Well.{Well}
-use Rattle.bounds.proofs.WellRoom.{well-few}
-use Rattle.bounds.proofs.WellStep.{step-well}
+use Rattle.bounds.proofs.WellRoom.{well_few}
+use Rattle.bounds.proofs.WellStep.{step_well}
 use Rattle.after.specs.After.{kept_with, Places}
 use Rattle.delivery.specs.Delivery.{outcome_of, is_done, messages_after, calls_after, end_if, end_of, HasRoom}
 use Rattle.delivery.specs.declared.Outcome.{Outcome}
@@ -64,9 +64,9 @@ module _ (v : View) (k : Kept) (e : Timed) (answers : List ℕ) where
   unfolding step
   step-runs h = rw (eq-eqb _ _ h)
 
-  pub step-declines : (why : ℕ) → refusal e.what v k e.time ≡ suc why → step v k e answers ≡ stepped (refused (suc why)) k
+  pub step_declines : (why : ℕ) → refusal e.what v k e.time ≡ suc why → step v k e answers ≡ stepped (refused (suc why)) k
   unfolding step
-  step-declines why h = rw (h, ne_eqb (suc why) 0 (λ (q : suc why ≡ 0). omega arith))
+  step_declines why h = rw (h, ne_eqb (suc why) 0 (λ (q : suc why ≡ 0). omega arith))
 
 module _ (v : View) (k : Kept) (r : Got Left) where
   -- how it ends, by the line
@@ -79,8 +79,8 @@ module _ (v : View) (k : Kept) (r : Got Left) where
       at declined = refl
       at overrun = refl
 
-  pub done-keeps : is_done (end_of r.talk (r.value.saved && v.remember)) ≡ true → (finished v k r).kept ≡ kept_with r.value r.talk.opened
-  done-keeps = at r.talk.stop
+  pub done_keeps : is_done (end_of r.talk (r.value.saved && v.remember)) ≡ true → (finished v k r).kept ≡ kept_with r.value r.talk.opened
+  done_keeps = at r.talk.stop
     where
       at : (s : Stop) → is_done (end_if s r.talk (r.value.saved && v.remember)) ≡ true → (finish s v k r).kept ≡ kept_with r.value r.talk.opened
       at going h = refl
@@ -88,8 +88,8 @@ module _ (v : View) (k : Kept) (r : Got Left) where
       at declined h = absurd (false≢true h)
       at overrun h = absurd (false≢true h)
 
-  pub undone-keeps : is_done (end_of r.talk (r.value.saved && v.remember)) ≡ false → (finished v k r).kept ≡ k
-  undone-keeps = at r.talk.stop
+  pub undone_keeps : is_done (end_of r.talk (r.value.saved && v.remember)) ≡ false → (finished v k r).kept ≡ k
+  undone_keeps = at r.talk.stop
     where
       at : (s : Stop) → is_done (end_if s r.talk (r.value.saved && v.remember)) ≡ false → (finish s v k r).kept ≡ k
       at going h = absurd (true≢false h)
@@ -100,17 +100,17 @@ module _ (v : View) (k : Kept) (r : Got Left) where
 -- ── room ──
 
 -- a line that goes on is that of a done event: it has at most 102 messages and 337 calls
-pub room-for : (p : List ℕ) → verdict p ≡ 0 → (k : Kept) → Well p k → (e : Timed) (answers : List ℕ) → refusal e.what (view_of p) k e.time ≡ 0 →
+pub room_for_lem : (p : List ℕ) → verdict p ≡ 0 → (k : Kept) → Well p k → (e : Timed) (answers : List ℕ) → refusal e.what (view_of p) k e.time ≡ 0 →
     (io : Io) (cs ms : List ℕ) → shown answers io cs ms ≡ (did (view_of p) k e answers).talk → HasRoom io
 unfolding shown
-room-for p ok k well e answers free io cs ms q h =
+room_for_lem p ok k well e answers free io cs ms q h =
     let r = did (view_of p) k e answers in
     let goes : r.talk.stop ≡ going = sym (ap (λ (t : Talk). t.stop) q) ∙ ap (λ n. stop_in n io.due) h in
     let end : (step (view_of p) k e answers).ended ≡ done r.talk.messages r.talk.calls _ _ =
     ap (λ (x : Stepped). x.ended) (step-runs (view_of p) k e answers free) ∙ ends_so (view_of p) k r ∙ ap (λ s. end_if s r.talk (r.value.saved && (view_of p).remember)) goes in
-    let few = well-few p ok k well e answers _ _ _ _ end in
-    let sent : length r.talk.messages ≡ io.sent = ap (λ (t : Talk). length t.messages) (sym q) ∙ messages-length io.sent ms in
-    let asked : length r.talk.calls ≡ io.asked = ap (λ (t : Talk). length t.calls) (sym q) ∙ calls-length io.asked cs in
+    let few = well_few p ok k well e answers _ _ _ _ end in
+    let sent : length r.talk.messages ≡ io.sent = ap (λ (t : Talk). length t.messages) (sym q) ∙ messages_length io.sent ms in
+    let asked : length r.talk.calls ≡ io.asked = ap (λ (t : Talk). length t.calls) (sym q) ∙ calls_length io.asked cs in
     (omega (arith, few.0, sent), omega (arith, few.1, asked))
 
 -- ── what is delivered ──
@@ -139,10 +139,10 @@ declines d why p s ms cs q =
     })
 
 -- an event that did nothing
-pub does-nothing : (d : Stepped) (p : List ℕ) (s : Session) (ms cs : List ℕ) → well_shaped p s ≡ true → d ≡ stepped (done [] [] 0 false) (seen p s) →
+pub does_nothing : (d : Stepped) (p : List ℕ) (s : Session) (ms cs : List ℕ) → well_shaped p s ≡ true → d ≡ stepped (done [] [] 0 false) (seen p s) →
     Delivers d p s ms cs (stays (outcome.Done 0 0 0 false) s) ms cs
 unfolding joined encode at_front
-does-nothing d p s ms cs w q =
+does_nothing d p s ms cs w q =
     rw q
     (record {
       outcome = refl;
@@ -156,16 +156,16 @@ does-nothing d p s ms cs w q =
     })
 
 -- at most 102 messages and 337 calls: of an event that is not done there is nothing to count
-few-undone : (x : Ended) → is_done x ≡ false → FewOf x
-few-undone (done ms cs used saved) h = absurd (true≢false h)
-few-undone (refused why) h = tt
-few-undone (waiting c) h = tt
+few_undone : (x : Ended) → is_done x ≡ false → FewOf x
+few_undone (done ms cs used saved) h = absurd (true≢false h)
+few_undone (refused why) h = tt
+few_undone (waiting c) h = tt
 
-few-done : (x : Ended) →
+few_done : (x : Ended) →
     ((ms : List (List ℕ)) (cs : List Call) (used : ℕ) (saved : Bool) → x ≡ done ms cs used saved → (length ms ≤ 102) × (length cs ≤ 337)) → FewOf x
-few-done (done ms cs used saved) h = h ms cs used saved refl
-few-done (refused why) h = tt
-few-done (waiting c) h = tt
+few_done (done ms cs used saved) h = h ms cs used saved refl
+few_done (refused why) h = tt
+few_done (waiting c) h = tt
 
 module _ (p : List ℕ) (ok : verdict p ≡ 0) (s : Session) (well : Well p (seen p s)) (e : Timed) (answers : List ℕ)
     (free : refusal e.what (view_of p) (seen p s) e.time ≡ 0) where
@@ -179,51 +179,51 @@ module _ (p : List ℕ) (ok : verdict p ≡ 0) (s : Session) (well : Well p (see
   end_is = ap (λ (x : Stepped). x.ended) (step-runs v (seen p s) e answers free) ∙ ends_so v (seen p s) (did v (seen p s) e answers)
 
   -- an event that stopped leaves all as it was
-  pub undone-delivers : (o : Outcome) (ms cs ms₁ cs₁ : List ℕ) → is_done end ≡ false → o ≡ outcome_of end → ms₁ ≡ messages_after end ms → cs₁ ≡ calls_after end cs →
+  pub undone_delivers : (o : Outcome) (ms cs ms₁ cs₁ : List ℕ) → is_done end ≡ false → o ≡ outcome_of end → ms₁ ≡ messages_after end ms → cs₁ ≡ calls_after end cs →
       Delivers (step v (seen p s) e answers) p s ms cs (stays o s) ms₁ cs₁
-  undone-delivers o ms cs ms₁ cs₁ u ho hm hc =
+  undone_delivers o ms cs ms₁ cs₁ u ho hm hc =
       record {
         outcome = rw end_is ho;
         session =
-            sym (ap (λ (x : Stepped). x.kept) (step-runs v (seen p s) e answers free) ∙ undone-keeps v (seen p s) (did v (seen p s) e answers) u);
+            sym (ap (λ (x : Stepped). x.kept) (step-runs v (seen p s) e answers free) ∙ undone_keeps v (seen p s) (did v (seen p s) e answers) u);
         still = λ h. refl;
         same = λ h. refl;
         shaped = λ h. absurd (false≢true (sym u ∙ ap is_done (sym end_is) ∙ h));
         messages = rw end_is hm;
         calls = rw end_is hc;
-        few = few-undone (step v (seen p s) e answers).ended (ap is_done end_is ∙ u);
+        few = few_undone (step v (seen p s) e answers).ended (ap is_done end_is ∙ u);
       }
 
   -- and one that is done leaves r, which is seen as what it left
-  pub done-delivers : LowInput e.what → (o : Outcome) (r : Session) (ms cs ms₁ cs₁ : List ℕ) → is_done end ≡ true →
+  pub done_delivers : LowInput e.what → (o : Outcome) (r : Session) (ms cs ms₁ cs₁ : List ℕ) → is_done end ≡ true →
       seen p r ≡ kept_with (did v (seen p s) e answers).value (did v (seen p s) e answers).talk.opened → Places p r →
       o ≡ outcome_of end → ms₁ ≡ messages_after end ms → cs₁ ≡ calls_after end cs →
       Delivers (step v (seen p s) e answers) p s ms cs (goes o r) ms₁ cs₁
-  done-delivers low o r ms cs ms₁ cs₁ u q f ho hm hc =
+  done_delivers low o r ms cs ms₁ cs₁ u q f ho hm hc =
       let kept-is : seen p r ≡ (step v (seen p s) e answers).kept =
-      q ∙ sym (ap (λ (x : Stepped). x.kept) (step-runs v (seen p s) e answers free) ∙ done-keeps v (seen p s) (did v (seen p s) e answers) u) in
+      q ∙ sym (ap (λ (x : Stepped). x.kept) (step-runs v (seen p s) e answers free) ∙ done_keeps v (seen p s) (did v (seen p s) e answers) u) in
       record {
         outcome = rw end_is ho;
         session = kept-is;
         still = λ h. absurd (true≢false (sym u ∙ ap is_done (sym end_is) ∙ h));
         same = λ h. absurd (true≢false h);
-        shaped = λ h. shaped-again p r (subst (λ (x : Kept). Well p x) (sym kept-is) (step-well p ok (seen p s) well e low answers)) f;
+        shaped = λ h. shaped-again p r (subst (λ (x : Kept). Well p x) (sym kept-is) (step_well p ok (seen p s) well e low answers)) f;
         messages = rw end_is hm;
         calls = rw end_is hc;
-        few = few-done (step v (seen p s) e answers).ended (well-few p ok (seen p s) well e answers);
+        few = few_done (step v (seen p s) e answers).ended (well_few p ok (seen p s) well e answers);
       }
 
 -- ── which event it is ──
 
-pub runs-low : (what : Input) → runs what ≡ true → LowInput what
-runs-low (input.Midi (event.Fader ch x)) h = absurd (false≢true h)
-runs-low (input.Midi (event.Encoder ch n)) h = absurd (false≢true h)
-runs-low (input.Midi (event.Button b)) h = tt
-runs-low (input.Midi event.Other) h = absurd (false≢true h)
-runs-low input.Tick h = tt
-runs-low input.PushState h = tt
-runs-low input.PushTransport h = tt
-runs-low input.FlashBank h = tt
+pub runs_low : (what : Input) → runs what ≡ true → LowInput what
+runs_low (input.Midi (event.Fader ch x)) h = absurd (false≢true h)
+runs_low (input.Midi (event.Encoder ch n)) h = absurd (false≢true h)
+runs_low (input.Midi (event.Button b)) h = tt
+runs_low (input.Midi event.Other) h = absurd (false≢true h)
+runs_low input.Tick h = tt
+runs_low input.PushState h = tt
+runs_low input.PushTransport h = tt
+runs_low input.FlashBank h = tt
 
 -- a fader's hand is no encoder's, and neither is none
 abbrev sort : Hand → ℕ
@@ -234,19 +234,19 @@ sort hand.None = 2
 other : {A : Type 0} (a b : Hand) → eqb (sort a) (sort b) ≡ false → a ≡ b → A
 other a b n h = absurd (eqb-false (sort a) (sort b) n (ap sort h))
 
-pub others-run : (what : Input) → hand_of what ≡ hand.None → is_nothing what ≡ false → runs what ≡ true
-others-run (input.Midi (event.Fader ch x)) h n = other _ _ refl h
-others-run (input.Midi (event.Encoder ch d)) h n = other _ _ refl h
-others-run (input.Midi (event.Button b)) h n = at b.pressed n
+pub others_run : (what : Input) → hand_of what ≡ hand.None → is_nothing what ≡ false → runs what ≡ true
+others_run (input.Midi (event.Fader ch x)) h n = other _ _ refl h
+others_run (input.Midi (event.Encoder ch d)) h n = other _ _ refl h
+others_run (input.Midi (event.Button b)) h n = at b.pressed n
   where
     at : (b : Bool) → not b ≡ false → b ≡ true
     at true q = refl
     at false q = absurd (true≢false q)
-others-run (input.Midi event.Other) h n = absurd (true≢false n)
-others-run input.Tick h n = refl
-others-run input.PushState h n = refl
-others-run input.PushTransport h n = refl
-others-run input.FlashBank h n = refl
+others_run (input.Midi event.Other) h n = absurd (true≢false n)
+others_run input.Tick h n = refl
+others_run input.PushState h n = refl
+others_run input.PushTransport h n = refl
+others_run input.FlashBank h n = refl
 
 pub is_move : (e : Timed) (ch : ℕ) (x : Float) → hand_of e.what ≡ hand.Fader ch x → e ≡ moved_at e.time ch x
 is_move e ch x = at e.what
@@ -275,8 +275,8 @@ is-turn e ch n = at e.what
     at input.FlashBank h = other _ _ refl h
 
 -- a fader's and an encoder's event, of which the handlers are told channel and value
-pub low-move : (e : Timed) (ch : ℕ) (x : Float) → LowInput e.what → hand_of e.what ≡ hand.Fader ch x → ch < 16
-low-move e ch x low h = subst (λ (z : Timed). LowInput z.what) (is_move e ch x h) low
+pub low_move : (e : Timed) (ch : ℕ) (x : Float) → LowInput e.what → hand_of e.what ≡ hand.Fader ch x → ch < 16
+low_move e ch x low h = subst (λ (z : Timed). LowInput z.what) (is_move e ch x h) low
 
 pub low_turn : (e : Timed) (ch : ℕ) (n : ℤ) → LowInput e.what → hand_of e.what ≡ hand.Encoder ch n → (ch < 8) × (in_range n ≡ true)
 low_turn e ch n low h = subst (λ (z : Timed). LowInput z.what) (is-turn e ch n h) low
@@ -287,9 +287,9 @@ pub moves_so : (p : List ℕ) (s : Session) (e : Timed) (ch : ℕ) (x : Float) �
 moves_so p s e ch x h answers ms cs r ms₁ cs₁ d =
     subst (λ (z : Timed). Delivers (step (view_of p) (seen p s) z answers) p s ms cs r ms₁ cs₁) (sym (is_move e ch x h)) (d e.time)
 
-pub turns-so : (p : List ℕ) (s : Session) (e : Timed) (ch : ℕ) (n : ℤ) → hand_of e.what ≡ hand.Encoder ch n →
+pub turns_so : (p : List ℕ) (s : Session) (e : Timed) (ch : ℕ) (n : ℤ) → hand_of e.what ≡ hand.Encoder ch n →
     (answers ms cs : List ℕ) (r : declared.Stepped) → Turns p s ch n r → Delivers (step (view_of p) (seen p s) e answers) p s ms cs r ms cs
-turns-so p s e ch n h answers ms cs r d =
+turns_so p s e ch n h answers ms cs r d =
     subst (λ (z : Timed). Delivers (step (view_of p) (seen p s) z answers) p s ms cs r ms cs) (sym (is-turn e ch n h)) (d e.time answers ms cs)
 
 -- ── events with nothing to do ──
@@ -304,13 +304,13 @@ module _ (v : View) (k : Kept) (now : Float) (answers : List ℕ) (line : k.desk
       ap (λ (x : List Move). kept k.site (desk k.desk.marks k.desk.moves x []) k.lamps k.silenced k.opened) (sym line)
       ∙ ap (λ (x : List Turn). kept k.site (desk k.desk.marks k.desk.moves k.desk.line x) k.lamps k.silenced k.opened) (sym turns)
 
-  drains-nothing : (t : Talk) → drain (rig_now v k) k.desk t ≡ t
+  drains_nothing : (t : Talk) → drain (rig_now v k) k.desk t ≡ t
   unfolding drain writes nudges
-  drains-nothing t = rw (line, turns)
+  drains_nothing t = rw (line, turns)
 
-  flashes-nothing : (r : Rig) (t : Talk) → k.lamps.flash.on ≡ false → tick_flash r (targets_of k.silenced) k.desk.moves now k.lamps t ≡ got k.lamps t
+  flashes_nothing : (r : Rig) (t : Talk) → k.lamps.flash.on ≡ false → tick_flash r (targets_of k.silenced) k.desk.moves now k.lamps t ≡ got k.lamps t
   unfolding tick_flash
-  flashes-nothing r t h = rw h
+  flashes_nothing r t h = rw h
 
   idle-tick : is_due k.site.due k.site.at now ≡ false → k.lamps.flash.on ≡ false →
       step v k (record { time = now; what = input.Tick }) answers ≡ stepped (done [] [] 0 false) k
@@ -319,7 +319,7 @@ module _ (v : View) (k : Kept) (now : Float) (answers : List ℕ) (line : k.desk
     where
       at : (b : Bool) → b ≡ false → finished v k (tick_with b v k now (start answers k.opened)) ≡ stepped (done [] [] 0 false) emptied
       at true h = absurd (true≢false h)
-      at false h = rw (drains-nothing (start answers k.opened), flashes-nothing _ (start answers k.opened) f)
+      at false h = rw (drains_nothing (start answers k.opened), flashes_nothing _ (start answers k.opened) f)
 
 and3 : (a b c d : Bool) → (a && (b && (not c && not d))) ≡ true → (a ≡ true) × (b ≡ true) × (c ≡ false) × (d ≡ false)
 and3 true true false false h = (refl, refl, refl, refl)
@@ -328,10 +328,10 @@ and3 true true true d h = absurd (false≢true h)
 and3 true false c d h = absurd (false≢true h)
 and3 false b c d h = absurd (false≢true h)
 
-idle-so : (p : List ℕ) (s : Session) (now : Float) (answers : List ℕ) → is_idle s now ≡ true →
+idle_so : (p : List ℕ) (s : Session) (now : Float) (answers : List ℕ) → is_idle s now ≡ true →
     step (view_of p) (seen p s) (record { time = now; what = input.Tick }) answers ≡ stepped (done [] [] 0 false) (seen p s)
 unfolding seen beside
-idle-so p s now answers h =
+idle_so p s now answers h =
     let four = and3 (eqb s.line.count 0) (eqb s.turns.count 0) (is_due s.livedue s.liveat now) s.lamps.flash.on h in
     let n : s.line.count ≡ 0 = eqb-true s.line.count 0 four.0 in
     let m : s.turns.count ≡ 0 = eqb-true s.turns.count 0 four.1 in
@@ -355,7 +355,7 @@ nothing-done p s e answers a t i ha ht hi h = at e.what (rw (← ha, ← ht, ←
         press-at true z = absurd (false≢true z)
         press-at false z = refl
     at (input.Midi event.Other) q = refl
-    at input.Tick q = idle-so p s e.time answers q
+    at input.Tick q = idle_so p s e.time answers q
     at input.PushState q = absurd (false≢true q)
     at input.PushTransport q = absurd (false≢true q)
     at input.FlashBank q = absurd (false≢true q)
@@ -364,18 +364,18 @@ nothing-done p s e answers a t i ha ht hi h = at e.what (rw (← ha, ← ht, ←
 
 module _ (p : List ℕ) (s : Session) (event-bytes answers : List ℕ) (m c : ℕ) where
   -- the numbers 1 to 9
-  pub whole-declines : (why : ℕ) → declined_of p s m c ≡ why → (why ≡ 0 → ⊥) → whole p s event-bytes answers m c ≡ stepped (refused why) (seen p s)
+  pub whole_declines : (why : ℕ) → declined_of p s m c ≡ why → (why ≡ 0 → ⊥) → whole p s event-bytes answers m c ≡ stepped (refused why) (seen p s)
   unfolding whole
-  whole-declines why q n = verdict-at (eqb (verdict p) 0) refl q
+  whole_declines why q n = verdict-at (eqb (verdict p) 0) refl q
     where
-      room-at : (b : Bool) → pick b 9 0 ≡ why → pick b (stepped (refused 9) (seen p s)) (offered (read_of event-bytes) p (seen p s) answers) ≡ stepped (refused why) (seen p s)
-      room-at true h = rw h
-      room-at false h = absurd (n (sym h))
+      room_at_lem : (b : Bool) → pick b 9 0 ≡ why → pick b (stepped (refused 9) (seen p s)) (offered (read_of event-bytes) p (seen p s) answers) ≡ stepped (refused why) (seen p s)
+      room_at_lem true h = rw h
+      room_at_lem false h = absurd (n (sym h))
 
       shape_at : (b : Bool) → pick b (pick (ltb m 306 || ltb c 5392) 9 0) 8 ≡ why →
           pick b (pick (ltb m 306 || ltb c 5392) (stepped (refused 9) (seen p s)) (offered (read_of event-bytes) p (seen p s) answers)) (stepped (refused 8) (seen p s))
           ≡ stepped (refused why) (seen p s)
-      shape_at true h = room-at (ltb m 306 || ltb c 5392) h
+      shape_at true h = room_at_lem (ltb m 306 || ltb c 5392) h
       shape_at false h = rw h
 
       verdict-at : (b : Bool) → eqb (verdict p) 0 ≡ b → pick b (pick (well_shaped p s) (pick (ltb m 306 || ltb c 5392) 9 0) 8) (verdict p) ≡ why →
@@ -404,8 +404,8 @@ module _ (p : List ℕ) (s : Session) (event-bytes answers : List ℕ) (m c : �
           record {
             accepted = eqb-true (verdict p) 0 i;
             shaped = j;
-            messages = ltb-false m 306 (or-left-no (ltb m 306) (ltb c 5392) k);
-            calls = ltb-false c 5392 (or-right-no (ltb m 306) (ltb c 5392) k);
+            messages = ltb-false m 306 (or_left_no (ltb m 306) (ltb c 5392) k);
+            calls = ltb-false c 5392 (or_right_no (ltb m 306) (ltb c 5392) k);
             so = rw (i, j, k);
           }
       verdict-at true i true j true k h = absurd (omega arith)

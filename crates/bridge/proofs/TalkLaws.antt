@@ -11,7 +11,7 @@ use lib.Ieee.{Float}
 use borrow.Author.Tests.{ltb-true, ltb-false}
 use Rattle.base.specs.Choice.{pick}
 use Rattle.base.specs.Keyed.{change}
-use Rattle.base.specs.KeyedLaws.{change-long}
+use Rattle.base.specs.KeyedLaws.{change_long}
 use Rattle.base.specs.BesideLaws.{beside-length}
 use Rattle.protocol.specs.Protocol.{kind_of, channel_of}
 use Rattle.protocol.specs.declared.Button.{Button}
@@ -26,7 +26,7 @@ use Rattle.drivers.specs.Shown.{shown}
 use Rattle.drivers.specs.declared.Io.{Io}
 use Rattle.drivers.specs.declared.Level.{Level}
 use Rattle.session.specs.Session.{last_move, seen_line, seen_turns, Hushed, hushed_at, hushed_up_to, targets_of, is_hushed, seen_silenced}
-use Rattle.session.specs.SessionLaws.{targets-seen}
+use Rattle.session.specs.SessionLaws.{targets_seen}
 use Rattle.session.specs.declared.Session.{Session}
 use Rattle.session.specs.declared.Lamps.{Lamps}
 use Rattle.event.specs.declared.Input.{Input}
@@ -59,36 +59,36 @@ use Rattle.bridge.specs.Bridge.{Delivers, IsCurrent, drain_if, setting_of, act_o
 use Rattle.bridge.specs.Acts.{Given, Leaves, tick_behind, behind}
 use Rattle.bridge.proofs.Fit.{row_low}
 use Rattle.bridge.proofs.ButtonsLaws.{next_low}
-use Rattle.bridge.proofs.HandLaws.{rig-is}
-use Rattle.bridge.proofs.StepLaws.{stays, goes, room-for, undone-delivers, done-delivers, runs-low}
+use Rattle.bridge.proofs.HandLaws.{rig_is}
+use Rattle.bridge.proofs.StepLaws.{stays, goes, room_for_lem, undone_delivers, done_delivers, runs_low}
 
 -- ── a press adds at most sixteen ──
 
-adding-long : (f : Found) (ts l : List ℕ) → length (adding f ts l) ≤ suc (length l)
-adding-long found.Nothing ts l = omega arith
-adding-long (found.To d) ts l = at (has_mute d) (is_hushed (kept_by d) ts)
+adding_long : (f : Found) (ts l : List ℕ) → length (adding f ts l) ≤ suc (length l)
+adding_long found.Nothing ts l = omega arith
+adding_long (found.To d) ts l = at (has_mute d) (is_hushed (kept_by d) ts)
   where
-    hushed-at : (h : Bool) → length (pick h l (change (is_same (kept_by d)) (λ x. x) (kept_by d) l)) ≤ suc (length l)
-    hushed-at true = omega arith
-    hushed-at false = change-long (is_same (kept_by d)) (λ x. x) (kept_by d) l
+    hushed_at_lem : (h : Bool) → length (pick h l (change (is_same (kept_by d)) (λ x. x) (kept_by d) l)) ≤ suc (length l)
+    hushed_at_lem true = omega arith
+    hushed_at_lem false = change_long (is_same (kept_by d)) (λ x. x) (kept_by d) l
 
     at : (b h : Bool) → length (add_target b (kept_by d) ts l) ≤ suc (length l)
     at true h = omega arith
-    at false h = hushed-at (is_hushed (kept_by d) ts)
+    at false h = hushed_at_lem (is_hushed (kept_by d) ts)
 
-solo-long : (of : ℕ → Found) (fader : ℕ) (ts : List ℕ) (n : ℕ) → length (solo_adds of fader ts n) ≤ n
+solo_long : (of : ℕ → Found) (fader : ℕ) (ts : List ℕ) (n : ℕ) → length (solo_adds of fader ts n) ≤ n
 unfolding solo_adds
-solo-long of fader ts zero = omega arith
-solo-long of fader ts (suc n) =
-    omega (arith, solo-long of fader ts n, adding-long (pick (eqb (n + 1) fader) found.Nothing (of (n + 1))) ts (solo_adds of fader ts n))
+solo_long of fader ts zero = omega arith
+solo_long of fader ts (suc n) =
+    omega (arith, solo_long of fader ts n, adding_long (pick (eqb (n + 1) fader) found.Nothing (of (n + 1))) ts (solo_adds of fader ts n))
 
-mute-few : (r : Rig) (n : ℕ) (ts : List ℕ) → length (added_by_mute r n ts) ≤ 16
+mute_few : (r : Rig) (n : ℕ) (ts : List ℕ) → length (added_by_mute r n ts) ≤ 16
 unfolding added_by_mute
-mute-few r n ts = omega (arith, adding-long (destination r n) ts [])
+mute_few r n ts = omega (arith, adding_long (destination r n) ts [])
 
-solo-few : (r : Rig) (n : ℕ) (l : Lamps) (ts : List ℕ) → length (added_by_solo r n l ts) ≤ 16
+solo_few : (r : Rig) (n : ℕ) (l : Lamps) (ts : List ℕ) → length (added_by_solo r n l ts) ≤ 16
 unfolding added_by_solo
-solo-few r n l ts = at (destination r n)
+solo_few r n l ts = at (destination r n)
   where
     at : (f : Found) → length (adds_to f r n l ts) ≤ 16
     at found.Nothing = omega arith
@@ -96,19 +96,19 @@ solo-few r n l ts = at (destination r n)
       where
         turn_at_lem : (b : Bool) → length (pick b [] (solo_adds (peer r d.group) n ts 16)) ≤ 16
         turn_at_lem true = omega arith
-        turn_at_lem false = solo-long (peer r d.group) n ts 16
+        turn_at_lem false = solo_long (peer r d.group) n ts 16
 
-pub adds-few : (p : List ℕ) (here : Current) (l : Lamps) (x : Press) (ts : List ℕ) → length (adds_by p here l x ts) ≤ 16
+pub adds_few : (p : List ℕ) (here : Current) (l : Lamps) (x : Press) (ts : List ℕ) → length (adds_by p here l x ts) ≤ 16
 unfolding added_of
-adds-few p here l press.None ts = omega arith
-adds-few p here l (press.Of b) ts = at (eqb (kind_of b.note) 2) (eqb (kind_of b.note) 1)
+adds_few p here l press.None ts = omega arith
+adds_few p here l (press.Of b) ts = at (eqb (kind_of b.note) 2) (eqb (kind_of b.note) 1)
   where
     n : ℕ
     n = or_first (channel_of b.note) + 1
 
     at : (a c : Bool) → length (pick a (added_by_mute (rig_in p here) n ts) (pick c (added_by_solo (rig_in p here) n l ts) [])) ≤ 16
-    at true c = mute-few (rig_in p here) n ts
-    at false true = solo-few (rig_in p here) n l ts
+    at true c = mute_few (rig_in p here) n ts
+    at false true = solo_few (rig_in p here) n l ts
     at false false = omega arith
 
 -- ── number 11 ──
@@ -116,13 +116,13 @@ adds-few p here l (press.Of b) ts = at (eqb (kind_of b.note) 2) (eqb (kind_of b.
 abbrev pub eleven_if : Bool → ℕ
 eleven_if b = pick b 11 0
 
-pub rig-now : (p : List ℕ) (s : Session) → rig_now (view_of p) (seen p s) ≡ rig_at (view_of p) (seen p s) s.bank
+pub rig_now_lem : (p : List ℕ) (s : Session) → rig_now (view_of p) (seen p s) ≡ rig_at (view_of p) (seen p s) s.bank
 unfolding seen
-rig-now p s = refl
+rig_now_lem p s = refl
 
 -- as many as the count says
-pub silenced-long : (n : ℕ) (ts : List ℕ) (ls : List Float) → n ≤ length ts → n ≤ length ls → length (hushed_up_to n ts ls) ≡ n
-silenced-long n ts ls h k =
+pub silenced_long : (n : ℕ) (ts : List ℕ) (ls : List Float) → n ≤ length ts → n ≤ length ls → length (hushed_up_to n ts ls) ≡ n
+silenced_long n ts ls h k =
     beside-length hushed_at (take n ts) (take n ls) (length-take-le n ts h ∙ sym (length-take-le n ls k)) ∙ length-take-le n ts h
 
 module _ (p : List ℕ) (s : Session) (here : Current) (now : Float) (rig : rig_now (view_of p) (seen p s) ≡ rig_in p here)
@@ -142,81 +142,81 @@ module _ (p : List ℕ) (s : Session) (here : Current) (now : Float) (rig : rig_
 
   adds_same : (note : ℕ) → added_of p here s.lamps note ts ≡ added_by note (press_at (view_of p) (seen p s) now)
   unfolding added_of added_by seen
-  adds_same note = rw (rig, targets-seen n s.silenced.targets s.silenced.levels wide)
+  adds_same note = rw (rig, targets_seen n s.silenced.targets s.silenced.levels wide)
 
   none_so : (x : Press) → x ≡ press.None → (added : ℕ) → added ≡ length (adds_by p here s.lamps x ts) → eleven_if (ltb 256 (n + added)) ≡ 0
   none_so x hx added ha =
       let z : added ≡ 0 = ha ∙ ap (λ (y : Press). length (adds_by p here s.lamps y ts)) hx in
       rw (z, not-over)
 
-  pressed-so : (b : Button) (x : Press) → x ≡ press.Of b → (added : ℕ) → added ≡ length (adds_by p here s.lamps x ts) →
+  pressed_so : (b : Button) (x : Press) → x ≡ press.Of b → (added : ℕ) → added ≡ length (adds_by p here s.lamps x ts) →
       eleven_if (ltb 256 (n + added))
       ≡ eleven_if (ltb 256 (length (seen p s).silenced + length (added_by b.note (press_at (view_of p) (seen p s) now))))
   unfolding seen
-  pressed-so b x hx added ha =
+  pressed_so b x hx added ha =
       let z : added ≡ length (added_by b.note (press_at (view_of p) (seen p s) now)) =
       ha ∙ ap (λ (y : Press). length (adds_by p here s.lamps y ts)) hx ∙ ap length (adds_same b.note) in
       ap (λ (k : ℕ). eleven_if (ltb 256 (n + k))) z
       ∙ ap (λ (k : ℕ). eleven_if (ltb 256 (k + length (added_by b.note (press_at (view_of p) (seen p s) now)))))
-      (sym (silenced-long n s.silenced.targets s.silenced.levels long wide))
+      (sym (silenced_long n s.silenced.targets s.silenced.levels long wide))
 
-  press-so : (b : Button) → b.pressed ≡ true → (x : Press) → x ≡ press_if b.pressed b → (added : ℕ) → added ≡ length (adds_by p here s.lamps x ts) →
+  press_so : (b : Button) → b.pressed ≡ true → (x : Press) → x ≡ press_if b.pressed b → (added : ℕ) → added ≡ length (adds_by p here s.lamps x ts) →
       eleven_if (ltb 256 (n + added)) ≡ overfull b.pressed (view_of p) (seen p s) now b.note
-  press-so b r x hx added ha = at b.pressed r hx
+  press_so b r x hx added ha = at b.pressed r hx
     where
       at : (c : Bool) → c ≡ true → x ≡ press_if c b → eleven_if (ltb 256 (n + added)) ≡ overfull c (view_of p) (seen p s) now b.note
-      at true q h = pressed-so b x h added ha
+      at true q h = pressed_so b x h added ha
       at false q h = absurd (false≢true q)
 
-  pub over-so : (what : Input) → runs what ≡ true → (x : Press) → x ≡ press_in what → (added : ℕ) → added ≡ length (adds_by p here s.lamps x ts) →
+  pub over_so : (what : Input) → runs what ≡ true → (x : Press) → x ≡ press_in what → (added : ℕ) → added ≡ length (adds_by p here s.lamps x ts) →
       eleven_if (ltb 256 (n + added)) ≡ refusal what (view_of p) (seen p s) now
   unfolding refusal
-  over-so (input.Midi (event.Fader ch y)) r x hx added ha = absurd (false≢true r)
-  over-so (input.Midi (event.Encoder ch d)) r x hx added ha = absurd (false≢true r)
-  over-so (input.Midi event.Other) r x hx added ha = absurd (false≢true r)
-  over-so (input.Midi (event.Button b)) r x hx added ha = press-so b r x hx added ha
-  over-so input.Tick r x hx added ha = none_so x hx added ha
-  over-so input.PushState r x hx added ha = none_so x hx added ha
-  over-so input.PushTransport r x hx added ha = none_so x hx added ha
-  over-so input.FlashBank r x hx added ha = none_so x hx added ha
+  over_so (input.Midi (event.Fader ch y)) r x hx added ha = absurd (false≢true r)
+  over_so (input.Midi (event.Encoder ch d)) r x hx added ha = absurd (false≢true r)
+  over_so (input.Midi event.Other) r x hx added ha = absurd (false≢true r)
+  over_so (input.Midi (event.Button b)) r x hx added ha = press_so b r x hx added ha
+  over_so input.Tick r x hx added ha = none_so x hx added ha
+  over_so input.PushState r x hx added ha = none_so x hx added ha
+  over_so input.PushTransport r x hx added ha = none_so x hx added ha
+  over_so input.FlashBank r x hx added ha = none_so x hx added ha
 
 -- ── what an event is handed ──
 
 -- a bank selected is one of the profile's
-selected-low : (p : List ℕ) (bank ch : ℕ) → bank < bank_count p → selected_by p bank ch < bank_count p
+selected_low : (p : List ℕ) (bank ch : ℕ) → bank < bank_count p → selected_by p bank ch < bank_count p
 unfolding selected_by
-selected-low p bank ch h = at (select_of p bank) (ltb ch (bank_count p)) refl
+selected_low p bank ch h = at (select_of p bank) (ltb ch (bank_count p)) refl
   where
     at : (a b : Bool) → ltb ch (bank_count p) ≡ b → pick (a && b) ch bank < bank_count p
     at true true q = ltb-true ch (bank_count p) q
     at true false q = h
     at false b q = h
 
-pub bank-by-low : (p : List ℕ) (bank : ℕ) (x : Press) → bank < bank_count p → bank_by p bank x < bank_count p
+pub bank_by_low : (p : List ℕ) (bank : ℕ) (x : Press) → bank < bank_count p → bank_by p bank x < bank_count p
 unfolding bank_after
-bank-by-low p bank press.None h = h
-bank-by-low p bank (press.Of b) h =
+bank_by_low p bank press.None h = h
+bank_by_low p bank (press.Of b) h =
     at (eqb (kind_of b.note) 5 || eqb (kind_of b.note) 9) (eqb (kind_of b.note) 4 || eqb (kind_of b.note) 8) (eqb (kind_of b.note) 3)
   where
     at : (x y z : Bool) →
         pick x (next_bank true (bank_count p) bank) (pick y (next_bank false (bank_count p) bank) (pick z (selected_by p bank (or_first (channel_of b.note))) bank)) < bank_count p
     at true y z = next_low true (bank_count p) bank h
     at false true z = next_low false (bank_count p) bank h
-    at false false true = selected-low p bank (or_first (channel_of b.note)) h
+    at false false true = selected_low p bank (or_first (channel_of b.note)) h
     at false false false = h
 
 -- where number 11 lets it pass there is room
-pub fits-so : (p : List ℕ) (s : Session) (here : Current) (now : Float) → rig_now (view_of p) (seen p s) ≡ rig_in p here →
+pub fits_so : (p : List ℕ) (s : Session) (here : Current) (now : Float) → rig_now (view_of p) (seen p s) ≡ rig_in p here →
     s.silenced.count ≤ length s.silenced.targets → s.silenced.count ≤ length s.silenced.levels → s.silenced.count ≤ 256 → (what : Input) → runs what ≡ true →
     refusal what (view_of p) (seen p s) now ≡ 0 →
     length (seen_silenced s.silenced) + length (adds_by p here s.lamps (press_in what) (targets_of (seen_silenced s.silenced))) ≤ 256
-fits-so p s here now rig long wide few what r free =
+fits_so p s here now rig long wide few what r free =
     let n = s.silenced.count in
     let ts = take n s.silenced.targets in
-    let same : targets_of (seen_silenced s.silenced) ≡ ts = targets-seen n s.silenced.targets s.silenced.levels wide in
-    let count : length (seen_silenced s.silenced) ≡ n = silenced-long n s.silenced.targets s.silenced.levels long wide in
+    let same : targets_of (seen_silenced s.silenced) ≡ ts = targets_seen n s.silenced.targets s.silenced.levels wide in
+    let count : length (seen_silenced s.silenced) ≡ n = silenced_long n s.silenced.targets s.silenced.levels long wide in
     let so : eleven_if (ltb 256 (n + length (adds_by p here s.lamps (press_in what) ts))) ≡ 0 =
-    over-so p s here now rig long wide few what r (press_in what) refl _ refl ∙ free in
+    over_so p s here now rig long wide few what r (press_in what) refl _ refl ∙ free in
     rw (count, same) (at (ltb 256 (n + length (adds_by p here s.lamps (press_in what) ts))) refl so)
   where
     at : (b : Bool) → {m : ℕ} → ltb 256 m ≡ b → eleven_if b ≡ 0 → m ≤ 256
@@ -224,9 +224,9 @@ fits-so p s here now rig long wide few what r free =
     at false q h = ltb-false 256 _ q
 
 module _ (p : List ℕ) (s : Session) (shaped : well_shaped p s ≡ true) where
-  home-so : (there : Current) (bank : ℕ) (home : Level) → there.bank ≡ bank → home ≡ last_move (bank * 16 + s.lamps.flash.row % 16) s.moves →
+  home_so : (there : Current) (bank : ℕ) (home : Level) → there.bank ≡ bank → home ≡ last_move (bank * 16 + s.lamps.flash.row % 16) s.moves →
       IsHome home (rig_in p there) s.lamps s.moves
-  home-so there bank home q h on =
+  home_so there bank home q h on =
       let low : s.lamps.flash.row ≤ 7 = row_low p s shaped on in
       let same : s.lamps.flash.row % 16 ≡ s.lamps.flash.row = omega arith in
       h ∙ ap (λ r. last_move (bank * 16 + r) s.moves) same ∙ ap (λ b. last_move (b * 16 + s.lamps.flash.row) s.moves) (sym q)
@@ -238,20 +238,20 @@ module _ (p : List ℕ) (s : Session) (shaped : well_shaped p s ≡ true) where
   given_so here there after home n ts ls i j h hn ht hl =
       record {
         bank = sym i.bank;
-        rig = rig-now p s ∙ rig-is p s s.bank here i;
-        rig_there = ap (rig_at (view_of p) (seen p s)) j.bank ∙ rig-is p s after there j;
+        rig = rig_now_lem p s ∙ rig_is p s s.bank here i;
+        rig_there = ap (rig_at (view_of p) (seen p s)) j.bank ∙ rig_is p s after there j;
         strips = sym i.strips;
         lamps = refl;
         silenced = rw (hn, ht, hl);
-        home = home-so there after home j.bank h;
+        home = home_so there after home j.bank h;
       }
 
 -- ── what it does ──
 
-ticks-so : (p : List ℕ) (s : Session) (now : Float) (t : Talk) →
+ticks_so : (p : List ℕ) (s : Session) (now : Float) (t : Talk) →
     tick_behind (view_of p) (seen p s) now (writes (rig_now (view_of p) (seen p s)) (seen_line s.line) (nudges (seen_turns p s.turns) t)) ≡ tick (view_of p) (seen p s) now t
 unfolding tick_behind tick drain seen
-ticks-so p s now t = refl
+ticks_so p s now t = refl
 
 opened-shown : (answers : List ℕ) (io : Io) (cs ms : List ℕ) → io.opened ≡ (shown answers io cs ms).opened
 unfolding shown
@@ -264,15 +264,15 @@ behind-act : (p : List ℕ) (s : Session) (e : Timed) (here : Current) (t : Talk
 unfolding behind act
 behind-act p s e here t rig = at e.what
   where
-    tick-so : tick_behind (view_of p) (seen p s) e.time (writes (rig_in p here) (seen_line s.line) (nudges (seen_turns p s.turns) t))
+    tick_so : tick_behind (view_of p) (seen p s) e.time (writes (rig_in p here) (seen_line s.line) (nudges (seen_turns p s.turns) t))
         ≡ tick (view_of p) (seen p s) e.time t
-    tick-so = rw (← rig) (ticks-so p s e.time t)
+    tick_so = rw (← rig) (ticks_so p s e.time t)
 
     at : (w : Input) →
         behind w (view_of p) (seen p s) e.time (drain_if (is_tick w) (rig_in p here) (seen_line s.line) (seen_turns p s.turns) t)
         ≡ act w (view_of p) (seen p s) e.time t
     at (input.Midi m) = refl
-    at input.Tick = tick-so
+    at input.Tick = tick_so
     at input.PushState = refl
     at input.PushTransport = refl
     at input.FlashBank = refl
@@ -294,27 +294,27 @@ module _ (p : List ℕ) (s : Session) (e : Timed) (answers : List ℕ) (here : C
   unfolding left_of
   saved-is = ap (λ (x : Got Left). x.value.saved) talk-is
 
-  line-is : u ≡ (act_of p s e answers).talk
-  line-is = ap (λ (x : Got Left). x.talk) talk-is
+  line_is : u ≡ (act_of p s e answers).talk
+  line_is = ap (λ (x : Got Left). x.talk) talk-is
 
   -- room for what it made
-  pub room-so : verdict p ≡ 0 → Well p (seen p s) → refusal e.what (view_of p) (seen p s) e.time ≡ 0 → (io : Io) (cs ms : List ℕ) → shown answers io cs ms ≡ u → HasRoom io
+  pub room_so : verdict p ≡ 0 → Well p (seen p s) → refusal e.what (view_of p) (seen p s) e.time ≡ 0 → (io : Io) (cs ms : List ℕ) → shown answers io cs ms ≡ u → HasRoom io
   unfolding act_of seen
-  room-so ok well free io cs ms q = room-for p ok (seen p s) well e answers free io cs ms (q ∙ line-is)
+  room_so ok well free io cs ms q = room_for_lem p ok (seen p s) well e answers free io cs ms (q ∙ line_is)
 
   -- and its end
-  pub talks-so : is_due s.livedue s.liveat e.time ≡ due → Leaves here left → here.bank ≡ s.bank → (io : Io) (cs ms : List ℕ) → shown answers io cs ms ≡ u →
+  pub talks_so : is_due s.livedue s.liveat e.time ≡ due → Leaves here left → here.bank ≡ s.bank → (io : Io) (cs ms : List ℕ) → shown answers io cs ms ≡ u →
       (remember : Bool) → remember ≡ remember_of p → (r : End) (ms₀ cs₀ ms₁ cs₁ : List ℕ) → Ends io cs ms (left.saved && remember) r ms₀ cs₀ ms₁ cs₁ →
       Talks p s e answers ms₀ cs₀ (remember_of p) (record { ended = r; left = left }) s₁ ms₁ cs₁
-  talks-so is-due leaves bank io cs ms q remember hr r ms₀ cs₀ ms₁ cs₁ ends =
+  talks_so is-due leaves bank io cs ms q remember hr r ms₀ cs₀ ms₁ cs₁ ends =
       let end_same : end_of (shown answers io cs ms) (left.saved && remember) ≡ end_of (act_of p s e answers).talk ((act_of p s e answers).value.saved && remember_of p) =
-      ap (λ (t : Talk). end_of t (left.saved && remember)) (q ∙ line-is)
+      ap (λ (t : Talk). end_of t (left.saved && remember)) (q ∙ line_is)
       ∙ ap (λ (b : Bool). end_of (act_of p s e answers).talk (b && remember)) saved-is
       ∙ ap (λ (b : Bool). end_of (act_of p s e answers).talk ((act_of p s e answers).value.saved && b)) hr in
       record {
         outcome = ends.outcome answers ∙ ap outcome_of end_same;
         done = ends.done answers ∙ ap is_done end_same;
-        opened = ends.opened ∙ opened-shown answers io cs ms ∙ ap (λ (t : Talk). t.opened) (q ∙ line-is);
+        opened = ends.opened ∙ opened-shown answers io cs ms ∙ ap (λ (t : Talk). t.opened) (q ∙ line_is);
         left =
             ap (λ (b : Bool). left_of (seen p s) (is_tick e.what) b e.time left s₁) is-due ∙ ap (λ (x : Got Left). x.value) talk-is;
         bank = leaves.bank ∙ bank;
@@ -330,17 +330,17 @@ module _ (p : List ℕ) (s : Session) (e : Timed) (answers : List ℕ) (here : C
 module _ (p : List ℕ) (ok : verdict p ≡ 0) (s : Session) (well : Well p (seen p s)) (e : Timed) (answers : List ℕ)
     (free : refusal e.what (view_of p) (seen p s) e.time ≡ 0) (ms cs : List ℕ) (r : Talked) (ts : List ℕ) (ls : List Float) (ms₁ cs₁ : List ℕ)
     (t : Talks p s e answers ms cs (remember_of p) r (hushed_up_to r.left.hushed ts ls) ms₁ cs₁) where
-  pub talked-undone : r.ended.done ≡ false → Delivers (step (view_of p) (seen p s) e answers) p s ms cs (stays r.ended.outcome s) ms₁ cs₁
+  pub talked_undone : r.ended.done ≡ false → Delivers (step (view_of p) (seen p s) e answers) p s ms cs (stays r.ended.outcome s) ms₁ cs₁
   unfolding act_of seen
-  talked-undone h = undone-delivers p ok s well e answers free r.ended.outcome ms cs ms₁ cs₁ (sym t.done ∙ h) t.outcome t.messages t.calls
+  talked_undone h = undone_delivers p ok s well e answers free r.ended.outcome ms cs ms₁ cs₁ (sym t.done ∙ h) t.outcome t.messages t.calls
 
-  pub talked-done : runs e.what ≡ true → r.ended.done ≡ true → (at : Setting) → at ≡ setting_of p s e → (x : Session) →
+  pub talked_done : runs e.what ≡ true → r.ended.done ≡ true → (at : Setting) → at ≡ setting_of p s e → (x : Session) →
       Lasts s at r.left (record { targets = ts; levels = ls; count = r.left.hushed }) r.ended.opened e.time x → KeepsPlaces s x → Places p s →
       Delivers (step (view_of p) (seen p s) e answers) p s ms cs (goes r.ended.outcome x) ms₁ cs₁
   unfolding act_of seen
-  talked-done runs_so h at hat x lasts keeps places =
+  talked_done runs_so h at hat x lasts keeps places =
       let same : left_of (seen p s) at.ticks at.due e.time r.left (hushed_up_to r.left.hushed ts ls) ≡ (act_of p s e answers).value =
       ap (λ (a : Setting). left_of (seen p s) a.ticks a.due e.time r.left (hushed_up_to r.left.hushed ts ls)) hat ∙ t.left in
-      done-delivers p ok s well e answers free (runs-low e.what runs_so) r.ended.outcome x ms cs ms₁ cs₁ (sym t.done ∙ h)
+      done_delivers p ok s well e answers free (runs_low e.what runs_so) r.ended.outcome x ms cs ms₁ cs₁ (sym t.done ∙ h)
       (lasts p ∙ ap (λ l. kept_with l r.ended.opened) same ∙ ap (kept_with (act_of p s e answers).value) t.opened)
       (keeps p places) t.outcome t.messages t.calls

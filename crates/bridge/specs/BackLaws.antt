@@ -8,8 +8,8 @@ use Rattle.drivers.specs.Bytes.{joined, encode}
 use Rattle.session.specs.declared.Session.{Session}
 use Rattle.definition.specs.Step.{Ended, done, refused, waiting, seen}
 use Rattle.definition.specs.Whole.{whole}
-use Rattle.bounds.specs.Whole.{whole-so}
-use Rattle.bounds.specs.ReadBack.{ThreeOf, step-three, messages-back, calls_back}
+use Rattle.bounds.specs.Whole.{whole_so}
+use Rattle.bounds.specs.ReadBack.{ThreeOf, step_three, messages_back, calls_back}
 use Rattle.delivery.specs.Delivery.{messages_after, calls_after}
 use Rattle.bridge.specs.Bridge.{Delivers}
 use Rattle.bridge.specs.declared.Stepped as declared
@@ -20,19 +20,19 @@ BackOf (done m c used saved) ms cs = (messages_in (length m) ms ≡ m) × (calls
 BackOf (refused why) ms cs = Unit {0}
 BackOf (waiting c) ms cs = Unit {0}
 
-back-of : (e : Ended) (ms cs : List ℕ) → ThreeOf e → BackOf e (messages_after e ms) (calls_after e cs)
+back_of : (e : Ended) (ms cs : List ℕ) → ThreeOf e → BackOf e (messages_after e ms) (calls_after e cs)
 unfolding at_front
-back-of (done m c used saved) ms cs h = (messages-back m (drop (length (joined m)) ms) h, calls_back c (drop (length (encode c)) cs))
-back-of (refused why) ms cs h = tt
-back-of (waiting c) ms cs h = tt
+back_of (done m c used saved) ms cs h = (messages_back m (drop (length (joined m)) ms) h, calls_back c (drop (length (encode c)) cs))
+back_of (refused why) ms cs h = tt
+back_of (waiting c) ms cs h = tt
 
 module _ (p : List ℕ) (s : Session) (answers : List ℕ) where
-  whole-three : (event : List ℕ) (messages calls : ℕ) → ThreeOf (whole p s event answers messages calls).ended
-  whole-three event messages calls = whole-so p s event answers messages calls ThreeOf (λ why. tt) (λ e. step-three (view_of p) (seen p s) e answers)
+  whole_three : (event : List ℕ) (messages calls : ℕ) → ThreeOf (whole p s event answers messages calls).ended
+  whole_three event messages calls = whole_so p s event answers messages calls ThreeOf (λ why. tt) (λ e. step_three (view_of p) (seen p s) e answers)
 
-  pub delivers-back : (event : List ℕ) (messages calls : ℕ) (ms cs : List ℕ) (r : declared.Stepped) (ms₁ cs₁ : List ℕ) →
+  pub delivers_back : (event : List ℕ) (messages calls : ℕ) (ms cs : List ℕ) (r : declared.Stepped) (ms₁ cs₁ : List ℕ) →
       Delivers (whole p s event answers messages calls) p s ms cs r ms₁ cs₁ → BackOf (whole p s event answers messages calls).ended ms₁ cs₁
-  delivers-back event messages calls ms cs r ms₁ cs₁ h =
+  delivers_back event messages calls ms cs r ms₁ cs₁ h =
       let e : Ended = (whole p s event answers messages calls).ended in
       subst (λ (l : List ℕ). BackOf e l cs₁) (sym h.messages)
-      (subst (λ (l : List ℕ). BackOf e (messages_after e ms) l) (sym h.calls) (back-of e ms cs (whole-three event messages calls)))
+      (subst (λ (l : List ℕ). BackOf e (messages_after e ms) l) (sym h.calls) (back_of e ms cs (whole_three event messages calls)))

@@ -16,14 +16,14 @@ use Rattle.definition.specs.Buttons.{or_absent, offered_if, default_button, run_
 -- ── what the bank's driver does with a button: `name` is that driver ──
 
 -- a driver that is there has a number of one byte
-pub low-name : (name : ℕ) → MayBeDriver name → (name ≡ 65535 → ⊥) → name ≤ 255
-low-name name (inl h) e = h
-low-name name (inr h) e = absurd (e h)
+pub low_name : (name : ℕ) → MayBeDriver name → (name ≡ 65535 → ⊥) → name ≤ 255
+low_name name (inl h) e = h
+low_name name (inr h) e = absurd (e h)
 
 module _ (r : Rig) (kind : ℕ) (t : Talk) (name : ℕ) (d : name ≡ bank_driver r.here) where
-  pub no-driver : name ≡ 65535 → got bound.Nothing t ≡ default_button r kind t
+  pub no_driver : name ≡ 65535 → got bound.Nothing t ≡ default_button r kind t
   unfolding default_button
-  no-driver e = rw (← d, eq-eqb _ _ e)
+  no_driver e = rw (← d, eq-eqb _ _ e)
 
   -- the driver was asked to open, the line after it is u, and the profile has the command for the button
   module _ (ok : Bool) (u : Talk) (command : ℕ) (e : name ≡ 65535 → ⊥) (g : got ok u ≡ open_for name 0 t) (b : command ≡ r.button name kind) where
@@ -31,8 +31,8 @@ module _ (r : Rig) (kind : ℕ) (t : Talk) (name : ℕ) (d : name ≡ bank_drive
     unfolding default_button next
     opened = rw (← d, ne_eqb _ _ e, ← g)
 
-    pub offers-nothing : (not ok || eqb command 65535) ≡ true → got bound.Nothing u ≡ default_button r kind t
-    offers-nothing h = go ok h ∙ opened
+    pub offers_nothing : (not ok || eqb command 65535) ≡ true → got bound.Nothing u ≡ default_button r kind t
+    offers_nothing h = go ok h ∙ opened
       where
         go : (k : Bool) → (not k || eqb command 65535) ≡ true → got bound.Nothing u ≡ offered_if k r name kind u
         go true q = rw (← b, q)
@@ -51,9 +51,9 @@ module _ (r : Rig) (kind : ℕ) (t : Talk) (name : ℕ) (d : name ≡ bank_drive
 
 module _ (r : Rig) (kind : ℕ) (t v : Talk) (b : Bound)
     (e : b ≡ before (transport_of kind r.globals.transports) (transport_of kind r.here.part.transports)) where
-  pub runs-bound : (c : Command) → b ≡ bound.Run c → v ≡ run_bound b t → v ≡ run_command r kind t
+  pub runs_bound : (c : Command) → b ≡ bound.Run c → v ≡ run_bound b t → v ≡ run_command r kind t
   unfolding run_command
-  runs-bound c h w = rw (← e, w, h)
+  runs_bound c h w = rw (← e, w, h)
 
   pub runs-offered : b ≡ bound.Nothing → (o : Bound) (u : Talk) → got o u ≡ default_button r kind t → v ≡ run_bound o u → v ≡ run_command r kind t
   unfolding run_command
@@ -62,10 +62,10 @@ module _ (r : Rig) (kind : ℕ) (t v : Talk) (b : Bound)
 -- ── rec: `action` is what the bank says of R ──
 
 module _ (r : Rig) (t : Talk) (action : ℕ) (a : action ≡ r.here.part.rec) where
-  pub profile-says : (action ≡ 0 → ⊥) → got (eqb action 1) t ≡ rec_loads r t
+  pub profile_says : (action ≡ 0 → ⊥) → got (eqb action 1) t ≡ rec_loads r t
   unfolding rec_loads
-  profile-says e = rw (← a, ne_eqb _ _ e)
+  profile_says e = rw (← a, ne_eqb _ _ e)
 
-  pub driver-says : action ≡ 0 → (o : Bound) (scene : Bool) (u : Talk) → got o u ≡ default_button r 0 t → scene ≡ is_scene o → got scene u ≡ rec_loads r t
+  pub driver_says : action ≡ 0 → (o : Bound) (scene : Bool) (u : Talk) → got o u ≡ default_button r 0 t → scene ≡ is_scene o → got scene u ≡ rec_loads r t
   unfolding rec_loads next
-  driver-says e o scene u g s = rw (ap (λ x. eqb x 0) (sym a) ∙ eq-eqb action 0 e, ← g, s)
+  driver_says e o scene u g s = rw (ap (λ x. eqb x 0) (sym a) ∙ eq-eqb action 0 e, ← g, s)

@@ -12,14 +12,14 @@ use Rattle.std.proofs.lemmas.List.{length-map}
 use borrow.Author.Tests.{eqb-true, eqb-false, eq-eqb, ne_eqb, lt-ltb}
 use Rattle.base.specs.Choice.{pick}
 use Rattle.base.specs.Keyed.{any_of, all_of, change, keep, no_twice}
-use Rattle.base.specs.Pigeon.{left-of, right_of, all-change, no-left, no-right, first-no, rest-no}
+use Rattle.base.specs.Pigeon.{left_of_lem, right_of, all-change, no_left, no_right, first_no, rest_no}
 use Rattle.float.specs.Leaf.{f0}
 use Rattle.lookup.specs.declared.Destination.{Destination}
 use Rattle.lookup.specs.declared.Found.{Found}
 use Rattle.lookup.specs.declared.Found.TheVariants as found
 use Rattle.drivers.specs.Talk.{Talk, Act, next}
 use Rattle.session.specs.Session.{Hushed, hushed_at, targets_of, is_hushed, same_target, has_room, is_target, other_target, hush, unhush, was_muted}
-use Rattle.session.specs.SessionLaws.{same_hushed, hush-once, unhush-once}
+use Rattle.session.specs.SessionLaws.{same_hushed, hush_once, unhush_once}
 use Rattle.session.specs.declared.Lamps.{Lamps}
 use Rattle.definition.specs.Rig.{Rig, destination}
 use Rattle.definition.specs.Levels.{read, kept_by, has_mute, or_zero}
@@ -28,36 +28,36 @@ use Rattle.definition.specs.Muting.{hand_back, keep_level, zeroed, mute_level, m
 -- ── any list ──
 
 -- one of two passes: the second may be another that follows from it
-or-then : (b : Bool) {c d : Bool} → (c ≡ true → d ≡ true) → pick b true c ≡ true → pick b true d ≡ true
-or-then true h e = refl
-or-then false h e = h e
+or_then : (b : Bool) {c d : Bool} → (c ≡ true → d ≡ true) → pick b true c ≡ true → pick b true d ≡ true
+or_then true h e = refl
+or_then false h e = h e
 
-or-second : (b : Bool) {c : Bool} → c ≡ true → pick b true c ≡ true
-or-second true e = refl
-or-second false e = e
+or_second : (b : Bool) {c : Bool} → c ≡ true → pick b true c ≡ true
+or_second true e = refl
+or_second false e = e
 
 module _ {A : Type 0} where
   pub any-first : (f : A → Bool) (a b : List A) → any_of f a ≡ true → any_of f (a ++ b) ≡ true
   unfolding any_of
   any-first f [] b e = absurd (false≢true e)
-  any-first f (x ∷ a) b e = or-then (f x) (any-first f a b) e
+  any-first f (x ∷ a) b e = or_then (f x) (any-first f a b) e
 
-  pub any-second : (f : A → Bool) (a b : List A) → any_of f b ≡ true → any_of f (a ++ b) ≡ true
+  pub any_second : (f : A → Bool) (a b : List A) → any_of f b ≡ true → any_of f (a ++ b) ≡ true
   unfolding any_of
-  any-second f [] b e = e
-  any-second f (x ∷ a) b e = or-second (f x) (any-second f a b e)
+  any_second f [] b e = e
+  any_second f (x ∷ a) b e = or_second (f x) (any_second f a b e)
 
   -- the second of two lists may grow
-  pub any-both : (f : A → Bool) (a b c : List A) → (any_of f b ≡ true → any_of f c ≡ true) → any_of f (a ++ b) ≡ true → any_of f (a ++ c) ≡ true
+  pub any_both : (f : A → Bool) (a b c : List A) → (any_of f b ≡ true → any_of f c ≡ true) → any_of f (a ++ b) ≡ true → any_of f (a ++ c) ≡ true
   unfolding any_of
-  any-both f [] b c h e = h e
-  any-both f (x ∷ a) b c h e = or-then (f x) (any-both f a b c h) e
+  any_both f [] b c h e = h e
+  any_both f (x ∷ a) b c h e = or_then (f x) (any_both f a b c h) e
 
   -- a change that leaves those that are there loses none
   any-still : (f g : A → Bool) (y : A) (l : List A) → any_of g l ≡ true → any_of g (change f (λ x. x) y l) ≡ true
   unfolding any_of change
   any-still f g y [] e = absurd (false≢true e)
-  any-still f g y (x ∷ l) e = go (f x) (or-then (g x) (any-still f g y l) e)
+  any-still f g y (x ∷ l) e = go (f x) (or_then (g x) (any-still f g y l) e)
     where
       go : (b : Bool) → pick (g x) true (any_of g (change f (λ z. z) y l)) ≡ true → any_of g (pick b (x ∷ l) (x ∷ change f (λ z. z) y l)) ≡ true
       go true k = e
@@ -76,7 +76,7 @@ module _ {A : Type 0} where
   all-kept : (f g : A → Bool) (l : List A) → all_of f l ≡ true → all_of f (keep g l) ≡ true
   unfolding all_of keep
   all-kept f g [] e = refl
-  all-kept f g (x ∷ l) e = go (g x) (left-of (f x) (all_of f l) e) (all-kept f g l (right_of (f x) (all_of f l) e))
+  all-kept f g (x ∷ l) e = go (g x) (left_of_lem (f x) (all_of f l) e) (all-kept f g l (right_of (f x) (all_of f l) e))
     where
       go : (b : Bool) → f x ≡ true → all_of f (keep g l) ≡ true → all_of f (pick b (x ∷ keep g l) (keep g l)) ≡ true
       go true p k = rw (p, k)
@@ -85,7 +85,7 @@ module _ {A : Type 0} where
   all_weaker : (f g : A → Bool) → ((x : A) → f x ≡ true → g x ≡ true) → (l : List A) → all_of f l ≡ true → all_of g l ≡ true
   unfolding all_of
   all_weaker f g h [] e = refl
-  all_weaker f g h (x ∷ l) e = rw (h x (left-of (f x) (all_of f l) e)) (all_weaker f g h l (right_of (f x) (all_of f l) e))
+  all_weaker f g h (x ∷ l) e = rw (h x (left_of_lem (f x) (all_of f l) e)) (all_weaker f g h l (right_of (f x) (all_of f l) e))
 
 -- ── a list whose keys are all among others ──
 
@@ -125,36 +125,36 @@ module _ {A : Type 0} (key : A → ℕ) where
   unfolding any_of all_of
   cut_all x m [] a e = refl
   cut_all x m (z ∷ l) a e =
-      let d : x ≡ key z → ⊥ = eqb-false _ _ (first-no (eqb x (key z)) (any_of (λ w. eqb x (key w)) l) a) in
-      rw (cut-among x (key z) m d (left-of (among m (key z)) (all_of (λ w. among m (key w)) l) e))
-      (cut_all x m l (rest-no (eqb x (key z)) (any_of (λ w. eqb x (key w)) l) a) (right_of (among m (key z)) (all_of (λ w. among m (key w)) l) e))
+      let d : x ≡ key z → ⊥ = eqb-false _ _ (first_no (eqb x (key z)) (any_of (λ w. eqb x (key w)) l) a) in
+      rw (cut-among x (key z) m d (left_of_lem (among m (key z)) (all_of (λ w. among m (key w)) l) e))
+      (cut_all x m l (rest_no (eqb x (key z)) (any_of (λ w. eqb x (key w)) l) a) (right_of (among m (key z)) (all_of (λ w. among m (key w)) l) e))
 
   -- a list with no key twice, each of them in m, is no longer than m
   pub fits : (l : List A) (m : List ℕ) → no_twice (λ x y. eqb (key x) (key y)) l ≡ true → all_of (λ x. among m (key x)) l ≡ true → length l ≤ length m
   unfolding no_twice all_of
   fits [] m o e = omega arith
   fits (x ∷ l) m o e =
-      let here : among m (key x) ≡ true = left-of (among m (key x)) (all_of (λ z. among m (key z)) l) e in
+      let here : among m (key x) ≡ true = left_of_lem (among m (key x)) (all_of (λ z. among m (key z)) l) e in
       let rest : all_of (λ z. among m (key z)) l ≡ true = right_of (among m (key x)) (all_of (λ z. among m (key z)) l) e in
-      let free : any_of (λ z. eqb (key x) (key z)) l ≡ false = no-left (any_of (λ z. eqb (key x) (key z)) l) (no_twice (λ y z. eqb (key y) (key z)) l) o in
-      let once : no_twice (λ y z. eqb (key y) (key z)) l ≡ true = no-right (any_of (λ z. eqb (key x) (key z)) l) (no_twice (λ y z. eqb (key y) (key z)) l) o in
+      let free : any_of (λ z. eqb (key x) (key z)) l ≡ false = no_left (any_of (λ z. eqb (key x) (key z)) l) (no_twice (λ y z. eqb (key y) (key z)) l) o in
+      let once : no_twice (λ y z. eqb (key y) (key z)) l ≡ true = no_right (any_of (λ z. eqb (key x) (key z)) l) (no_twice (λ y z. eqb (key y) (key z)) l) o in
       omega (arith, cut-length (key x) m here, fits l (cut (key x) m) once (cut_all (key x) m l free rest))
 
   -- a list's keys are among any numbers that have them all
-  pub keys-among : (l : List A) (m : List ℕ) → ((x : ℕ) → among (map key l) x ≡ true → among m x ≡ true) → all_of (λ z. among m (key z)) l ≡ true
+  pub keys_among : (l : List A) (m : List ℕ) → ((x : ℕ) → among (map key l) x ≡ true → among m x ≡ true) → all_of (λ z. among m (key z)) l ≡ true
   unfolding any_of all_of
-  keys-among [] m h = refl
-  keys-among (x ∷ l) m h = rw (h (key x) (rw (eq-eqb (key x) (key x) refl))) (keys-among l m (λ z e. h z (or-second (eqb (key x) z) e)))
+  keys_among [] m h = refl
+  keys_among (x ∷ l) m h = rw (h (key x) (rw (eq-eqb (key x) (key x) refl))) (keys_among l m (λ z e. h z (or_second (eqb (key x) z) e)))
 
-  any-keys : (x : ℕ) (l : List A) → any_of (eqb x) (map key l) ≡ any_of (λ z. eqb x (key z)) l
+  any_keys : (x : ℕ) (l : List A) → any_of (eqb x) (map key l) ≡ any_of (λ z. eqb x (key z)) l
   unfolding any_of
-  any-keys x [] = refl
-  any-keys x (z ∷ l) = rw (any-keys x l)
+  any_keys x [] = refl
+  any_keys x (z ∷ l) = rw (any_keys x l)
 
-  pub once-keys : (l : List A) → no_twice eqb (map key l) ≡ no_twice (λ x y. eqb (key x) (key y)) l
+  pub once_keys : (l : List A) → no_twice eqb (map key l) ≡ no_twice (λ x y. eqb (key x) (key y)) l
   unfolding no_twice
-  once-keys [] = refl
-  once-keys (x ∷ l) = rw (any-keys (key x) l, once-keys l)
+  once_keys [] = refl
+  once_keys (x ∷ l) = rw (any_keys (key x) l, once_keys l)
 
 -- ── silenced targets, none twice, each of them in m ──
 
@@ -173,7 +173,7 @@ grown {m} {n} {s} h w =
 -- those held, before anything is added
 pub held : (s : List Hushed) (adds : List ℕ) → no_twice same_hushed s ≡ true → Within (targets_of s ++ adds) s
 held s adds o =
-    record { once = o; all = keys-among (λ e. e.target) s (targets_of s ++ adds) (λ x. any-first (λ y. eqb y x) (targets_of s) adds) }
+    record { once = o; all = keys_among (λ e. e.target) s (targets_of s ++ adds) (λ x. any-first (λ y. eqb y x) (targets_of s) adds) }
 
 -- a fader's destination without a mute is in m
 abbrev pub Covered : List ℕ → Found → Type 0
@@ -185,86 +185,86 @@ module _ (m : List ℕ) where
   abbrev pub Leaves : Act (List Hushed) → Type 0
   Leaves f = (t : Talk) → Within m (f t).value
 
-  pub hush-so : (target : ℕ) (v : Float) (s : List Hushed) → among m target ≡ true → Within m s → Within m (hush target v s)
+  pub hush_so : (target : ℕ) (v : Float) (s : List Hushed) → among m target ≡ true → Within m s → Within m (hush target v s)
   unfolding hush
-  hush-so target v s h w =
+  hush_so target v s h w =
       record {
-        once = hush-once s target v w.once;
+        once = hush_once s target v w.once;
         all = all-change (λ e. among m e.target) (is_target target) (λ e. hushed_at target v) (hushed_at target v) h (λ e. h) s w.all;
       }
 
-  pub unhush-so : (target : ℕ) (s : List Hushed) → Within m s → Within m (unhush target s)
+  pub unhush_so : (target : ℕ) (s : List Hushed) → Within m s → Within m (unhush target s)
   unfolding unhush
-  unhush-so target s w =
+  unhush_so target s w =
       record {
-        once = unhush-once s target w.once;
+        once = unhush_once s target w.once;
         all = all-kept (λ e. among m e.target) (other_target target) s w.all;
       }
 
-  back-so : (d : Destination) (s : List Hushed) → Within m s → Leaves (hand_back d s)
+  back_so : (d : Destination) (s : List Hushed) → Within m s → Leaves (hand_back d s)
   unfolding hand_back
-  back-so d s w t = unhush-so (kept_by d) s w
+  back_so d s w t = unhush_so (kept_by d) s w
 
-  keep-so : (d : Destination) (s : List Hushed) → among m (kept_by d) ≡ true → Within m s → Leaves (keep_level d s)
+  keep_so : (d : Destination) (s : List Hushed) → among m (kept_by d) ≡ true → Within m s → Leaves (keep_level d s)
   unfolding keep_level next
-  keep-so d s h w t = hush-so (kept_by d) (or_zero (read d t).value) s h w
+  keep_so d s h w t = hush_so (kept_by d) (or_zero (read d t).value) s h w
 
-  zeroed-so : (d : Destination) (s : List Hushed) → among m (kept_by d) ≡ true → Within m s → Leaves (zeroed d s)
+  zeroed_so : (d : Destination) (s : List Hushed) → among m (kept_by d) ≡ true → Within m s → Leaves (zeroed d s)
   unfolding zeroed next
-  zeroed-so d s h w t = keep-so d s h w t
+  zeroed_so d s h w t = keep_so d s h w t
 
   -- ── mute ──
-  mute_level-so : (b : Bool) (d : Destination) (s : List Hushed) → among m (kept_by d) ≡ true → Within m s → Leaves (mute_level b d s)
-  mute_level-so true d s h w = back-so d s w
-  mute_level-so false d s h w = zeroed-so d s h w
+  mute_level_so : (b : Bool) (d : Destination) (s : List Hushed) → among m (kept_by d) ≡ true → Within m s → Leaves (mute_level b d s)
+  mute_level_so true d s h w = back_so d s w
+  mute_level_so false d s h w = zeroed_so d s h w
 
-  mute_if-so : (b : Bool) (d : Destination) (s : List Hushed) → (b ≡ false → among m (kept_by d) ≡ true) → Within m s → Leaves (mute_if b d s)
-  mute_if-so true d s h w t = w
-  mute_if-so false d s h w t = mute_level-so (is_hushed (kept_by d) (targets_of s)) d s (h refl) w t
+  mute_if_so : (b : Bool) (d : Destination) (s : List Hushed) → (b ≡ false → among m (kept_by d) ≡ true) → Within m s → Leaves (mute_if b d s)
+  mute_if_so true d s h w t = w
+  mute_if_so false d s h w t = mute_level_so (is_hushed (kept_by d) (targets_of s)) d s (h refl) w t
 
-  mute_to-so : (f : Found) (r : Rig) (l : Lamps) (s : List Hushed) → Covered m f → Within m s → Leaves (mute_to f r l s)
+  mute_to_so : (f : Found) (r : Rig) (l : Lamps) (s : List Hushed) → Covered m f → Within m s → Leaves (mute_to f r l s)
   unfolding next
-  mute_to-so (found.To d) r l s h w t = mute_if-so (has_mute d) d s h w t
-  mute_to-so found.Nothing r l s h w t = w
+  mute_to_so (found.To d) r l s h w t = mute_if_so (has_mute d) d s h w t
+  mute_to_so found.Nothing r l s h w t = w
 
   -- ── solo off ──
-  back_if-so : (b : Bool) (d : Destination) (s : List Hushed) → Within m s → Leaves (back_if b d s)
-  back_if-so true d s w t = back-so d s w t
-  back_if-so false d s w t = w
+  back_if_so : (b : Bool) (d : Destination) (s : List Hushed) → Within m s → Leaves (back_if b d s)
+  back_if_so true d s w t = back_so d s w t
+  back_if_so false d s w t = w
 
-  off_if-so : (b : Bool) (d : Destination) (was : Bool) (s : List Hushed) → Within m s → Leaves (off_if b d was s)
-  off_if-so true d was s w t = w
-  off_if-so false d was s w t = back_if-so (is_hushed (kept_by d) (targets_of s)) d s w t
+  off_if_so : (b : Bool) (d : Destination) (was : Bool) (s : List Hushed) → Within m s → Leaves (off_if b d was s)
+  off_if_so true d was s w t = w
+  off_if_so false d was s w t = back_if_so (is_hushed (kept_by d) (targets_of s)) d s w t
 
-  off_to-so : (f : Found) (was : Bool) (s : List Hushed) → Within m s → Leaves (off_to f was s)
-  off_to-so (found.To d) was s w t = off_if-so (has_mute d) d was s w t
-  off_to-so found.Nothing was s w t = w
+  off_to_so : (f : Found) (was : Bool) (s : List Hushed) → Within m s → Leaves (off_to f was s)
+  off_to_so (found.To d) was s w t = off_if_so (has_mute d) d was s w t
+  off_to_so found.Nothing was s w t = w
 
-  solo_off-so : (of : ℕ → Found) (l : Lamps) (n : ℕ) (s : List Hushed) → Within m s → Leaves (solo_off of l n s)
+  solo_off_so : (of : ℕ → Found) (l : Lamps) (n : ℕ) (s : List Hushed) → Within m s → Leaves (solo_off of l n s)
   unfolding solo_off next
-  solo_off-so of l zero s w t = w
-  solo_off-so of l (suc n) s w t = let u = solo_off of l n s t in off_to-so (of (n + 1)) (was_muted (n + 1) l) u.value (solo_off-so of l n s w t) u.talk
+  solo_off_so of l zero s w t = w
+  solo_off_so of l (suc n) s w t = let u = solo_off of l n s t in off_to_so (of (n + 1)) (was_muted (n + 1) l) u.value (solo_off_so of l n s w t) u.talk
 
   -- ── solo on: a peer is silenced only where it is covered ──
-  silence-so : (b : Bool) (d : Destination) (s : List Hushed) → among m (kept_by d) ≡ true → Within m s → Leaves (silence_if b d s)
+  silence_so : (b : Bool) (d : Destination) (s : List Hushed) → among m (kept_by d) ≡ true → Within m s → Leaves (silence_if b d s)
   unfolding next
-  silence-so true d s h w t = w
-  silence-so false d s h w t = keep-so d s h w t
+  silence_so true d s h w t = w
+  silence_so false d s h w t = keep_so d s h w t
 
-  on-so : (b : Bool) (d : Destination) (s : List Hushed) → (b ≡ false → among m (kept_by d) ≡ true) → Within m s → Leaves (on_if b d true s)
-  on-so true d s h w t = w
-  on-so false d s h w t = silence-so (is_hushed (kept_by d) (targets_of s)) d s (h refl) w t
+  on_so : (b : Bool) (d : Destination) (s : List Hushed) → (b ≡ false → among m (kept_by d) ≡ true) → Within m s → Leaves (on_if b d true s)
+  on_so true d s h w t = w
+  on_so false d s h w t = silence_so (is_hushed (kept_by d) (targets_of s)) d s (h refl) w t
 
-  alone-so : (b : Bool) (d : Destination) (s : List Hushed) → Within m s → Leaves (on_if b d false s)
-  alone-so true d s w t = w
-  alone-so false d s w t = back_if-so (is_hushed (kept_by d) (targets_of s)) d s w t
+  alone_so : (b : Bool) (d : Destination) (s : List Hushed) → Within m s → Leaves (on_if b d false s)
+  alone_so true d s w t = w
+  alone_so false d s w t = back_if_so (is_hushed (kept_by d) (targets_of s)) d s w t
 
   -- `self`: it is the fader itself
-  pub on_to-so : (self : Bool) (f : Found) (s : List Hushed) → Covered m (pick self found.Nothing f) → Within m s → Leaves (on_to f (not self) s)
-  on_to-so true (found.To d) s h w t = alone-so (has_mute d) d s w t
-  on_to-so false (found.To d) s h w t = on-so (has_mute d) d s h w t
-  on_to-so true found.Nothing s h w t = w
-  on_to-so false found.Nothing s h w t = w
+  pub on_to_so : (self : Bool) (f : Found) (s : List Hushed) → Covered m (pick self found.Nothing f) → Within m s → Leaves (on_to f (not self) s)
+  on_to_so true (found.To d) s h w t = alone_so (has_mute d) d s w t
+  on_to_so false (found.To d) s h w t = on_so (has_mute d) d s h w t
+  on_to_so true found.Nothing s h w t = w
+  on_to_so false found.Nothing s h w t = w
 
 -- ── what number 11 counts covers the destination ──
 
@@ -284,15 +284,15 @@ module _ (ts l : List ℕ) where
       go true = e
       go false = at (is_hushed (kept_by d) ts)
 
-  pub adding-covers : (f : Found) → Covered (ts ++ adding f ts l) f
+  pub adding_covers : (f : Found) → Covered (ts ++ adding f ts l) f
   unfolding is_hushed
-  adding-covers found.Nothing = tt
-  adding-covers (found.To d) = go (has_mute d)
+  adding_covers found.Nothing = tt
+  adding_covers (found.To d) = go (has_mute d)
     where
       at : (h : Bool) → is_hushed (kept_by d) ts ≡ h → among (ts ++ pick h l (made (kept_by d))) (kept_by d) ≡ true
       at true e = any-first (λ y. eqb y (kept_by d)) ts l e
       at false e =
-          any-second (λ y. eqb y (kept_by d)) ts (made (kept_by d)) (any-made (is_same (kept_by d)) (kept_by d) l (eq-eqb (kept_by d) (kept_by d) refl))
+          any_second (λ y. eqb y (kept_by d)) ts (made (kept_by d)) (any-made (is_same (kept_by d)) (kept_by d) l (eq-eqb (kept_by d) (kept_by d) refl))
 
       go : (b : Bool) → b ≡ false → among (ts ++ add_target b (kept_by d) ts l) (kept_by d) ≡ true
       go true e = absurd (true≢false e)
@@ -302,34 +302,34 @@ module _ (s : List Hushed) (o : no_twice same_hushed s ≡ true) where
   abbrev ts : List ℕ
   ts = targets_of s
 
-  pub mute-so : (r : Rig) (n : ℕ) (l : Lamps) → Leaves (ts ++ added_by_mute r n ts) (mute r n l s)
+  pub mute_so : (r : Rig) (n : ℕ) (l : Lamps) → Leaves (ts ++ added_by_mute r n ts) (mute r n l s)
   unfolding mute added_by_mute
-  mute-so r n l = let f = destination r n in mute_to-so (ts ++ adding f ts []) f r l s (adding-covers ts [] f) (held s (adding f ts []) o)
+  mute_so r n l = let f = destination r n in mute_to_so (ts ++ adding f ts []) f r l s (adding_covers ts [] f) (held s (adding f ts []) o)
 
-  pub solo_on-so : (of : ℕ → Found) (fader n : ℕ) → Leaves (ts ++ solo_adds of fader ts n) (solo_on of fader n s)
+  pub solo_on_so : (of : ℕ → Found) (fader n : ℕ) → Leaves (ts ++ solo_adds of fader ts n) (solo_on of fader n s)
   unfolding solo_on solo_adds next
-  solo_on-so of fader zero t = held s [] o
-  solo_on-so of fader (suc n) t =
+  solo_on_so of fader zero t = held s [] o
+  solo_on_so of fader (suc n) t =
       let u = solo_on of fader n s t in
       let adds = solo_adds of fader ts n in
       let f = pick (eqb (n + 1) fader) found.Nothing (of (n + 1)) in
-      on_to-so (ts ++ adding f ts adds) (eqb (n + 1) fader) (of (n + 1)) u.value (adding-covers ts adds f)
-      (grown (λ x. any-both (λ y. eqb y x) ts adds (adding f ts adds) (adding-more ts adds f x)) (solo_on-so of fader n t))
+      on_to_so (ts ++ adding f ts adds) (eqb (n + 1) fader) (of (n + 1)) u.value (adding_covers ts adds f)
+      (grown (λ x. any_both (λ y. eqb y x) ts adds (adding f ts adds) (adding-more ts adds f x)) (solo_on_so of fader n t))
       u.talk
 
-  solo_if-so : (r : Rig) (b : Bool) (group fader : ℕ) (l : Lamps) (t : Talk) →
+  solo_if_so : (r : Rig) (b : Bool) (group fader : ℕ) (l : Lamps) (t : Talk) →
       Within (ts ++ pick b [] (solo_adds (peer r group) fader ts 16)) (solo_if b r group fader l s t).value.silenced
   unfolding next
-  solo_if-so r true group fader l t = solo_off-so (ts ++ []) (peer r group) l 16 s (held s [] o) t
-  solo_if-so r false group fader l t = solo_on-so (peer r group) fader 16 (note_if (eqb l.soloed 0) (peer r group) ts l t).talk
+  solo_if_so r true group fader l t = solo_off_so (ts ++ []) (peer r group) l 16 s (held s [] o) t
+  solo_if_so r false group fader l t = solo_on_so (peer r group) fader 16 (note_if (eqb l.soloed 0) (peer r group) ts l t).talk
 
-  solo_with-so : (f : Found) (r : Rig) (fader : ℕ) (l : Lamps) (t : Talk) → Within (ts ++ adds_to f r fader l ts) (solo_with f r fader l s t).value.silenced
-  solo_with-so (found.To d) r fader l t = solo_if-so r (eqb l.soloed fader) d.group fader l t
-  solo_with-so found.Nothing r fader l t = held s [] o
+  solo_with_so : (f : Found) (r : Rig) (fader : ℕ) (l : Lamps) (t : Talk) → Within (ts ++ adds_to f r fader l ts) (solo_with f r fader l s t).value.silenced
+  solo_with_so (found.To d) r fader l t = solo_if_so r (eqb l.soloed fader) d.group fader l t
+  solo_with_so found.Nothing r fader l t = held s [] o
 
-  pub solo-so : (r : Rig) (n : ℕ) (l : Lamps) (t : Talk) → Within (ts ++ added_by_solo r n l ts) (solo r n l s t).value.silenced
+  pub solo_so : (r : Rig) (n : ℕ) (l : Lamps) (t : Talk) → Within (ts ++ added_by_solo r n l ts) (solo r n l s t).value.silenced
   unfolding solo added_by_solo
-  solo-so r n l t = solo_with-so (destination r n) r n l t
+  solo_so r n l t = solo_with_so (destination r n) r n l t
 
 -- ── room ──
 
@@ -338,8 +338,8 @@ not-among : (target : ℕ) (l : List Hushed) → any_of (same_target target) (ta
 unfolding any_of
 not-among target [] e = refl
 not-among target (x ∷ l) e =
-    let d : x.target ≡ target → ⊥ = eqb-false _ _ (first-no (eqb x.target target) (any_of (same_target target) (targets_of l)) e) in
-    rw (ne_eqb target x.target (λ q. d (sym q)), not-among target l (rest-no (eqb x.target target) (any_of (same_target target) (targets_of l)) e))
+    let d : x.target ≡ target → ⊥ = eqb-false _ _ (first_no (eqb x.target target) (any_of (same_target target) (targets_of l)) e) in
+    rw (ne_eqb target x.target (λ q. d (sym q)), not-among target l (rest_no (eqb x.target target) (any_of (same_target target) (targets_of l)) e))
 
 one_more : (m : List ℕ) (s : List Hushed) (target : ℕ) → Within m s → among m target ≡ true → any_of (same_target target) (targets_of s) ≡ false →
     Within m (hushed_at target f0 ∷ s)

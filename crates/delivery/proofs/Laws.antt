@@ -9,7 +9,7 @@ use lib.Seq.{take_all}
 use Rattle.base.specs.Tail.{at_front}
 use Rattle.drivers.specs.Talk.{Talk}
 use Rattle.drivers.specs.Bytes.{joined, encode}
-use Rattle.drivers.specs.BytesLaws.{calls-length, messages-length}
+use Rattle.drivers.specs.BytesLaws.{calls_length, messages_length}
 use Rattle.drivers.specs.Shown.{calls_in, messages_in, stop_in, shown}
 use Rattle.drivers.specs.declared.Call.{Call}
 use Rattle.drivers.specs.declared.Io.{Io}
@@ -54,17 +54,17 @@ module _ (t : Talk) (saved : Bool) where
   undone-done (suc (suc zero)) c k = refl
   undone-done (suc (suc (suc n))) c k = refl
 
-  undone-messages : (n : ℕ) (c : Call) → (n ≡ 0 → ⊥) → (old : List ℕ) → old ≡ messages_after (end_if (stop_in n c) t saved) old
-  undone-messages zero c k old = absurd (k refl)
-  undone-messages (suc zero) c k old = refl
-  undone-messages (suc (suc zero)) c k old = refl
-  undone-messages (suc (suc (suc n))) c k old = refl
+  undone_messages : (n : ℕ) (c : Call) → (n ≡ 0 → ⊥) → (old : List ℕ) → old ≡ messages_after (end_if (stop_in n c) t saved) old
+  undone_messages zero c k old = absurd (k refl)
+  undone_messages (suc zero) c k old = refl
+  undone_messages (suc (suc zero)) c k old = refl
+  undone_messages (suc (suc (suc n))) c k old = refl
 
-  undone-calls : (n : ℕ) (c : Call) → (n ≡ 0 → ⊥) → (old : List ℕ) → old ≡ calls_after (end_if (stop_in n c) t saved) old
-  undone-calls zero c k old = absurd (k refl)
-  undone-calls (suc zero) c k old = refl
-  undone-calls (suc (suc zero)) c k old = refl
-  undone-calls (suc (suc (suc n))) c k old = refl
+  undone_calls : (n : ℕ) (c : Call) → (n ≡ 0 → ⊥) → (old : List ℕ) → old ≡ calls_after (end_if (stop_in n c) t saved) old
+  undone_calls zero c k old = absurd (k refl)
+  undone_calls (suc zero) c k old = refl
+  undone_calls (suc (suc zero)) c k old = refl
+  undone_calls (suc (suc (suc n))) c k old = refl
 
 -- ── an event's end ──
 
@@ -78,8 +78,8 @@ module _ (io : Io) (cs ms : List ℕ) (saved : Bool) where
         outcome = λ answers. e ∙ undone-outcome (shown answers io cs ms) saved io.stop io.due k;
         done = λ answers. undone-done (shown answers io cs ms) saved io.stop io.due k;
         opened = refl;
-        messages = λ answers. undone-messages (shown answers io cs ms) saved io.stop io.due k ms₀;
-        calls = λ answers. undone-calls (shown answers io cs ms) saved io.stop io.due k cs₀;
+        messages = λ answers. undone_messages (shown answers io cs ms) saved io.stop io.due k ms₀;
+        calls = λ answers. undone_calls (shown answers io cs ms) saved io.stop io.due k cs₀;
       }
 
   -- its messages and calls are delivered
@@ -89,7 +89,7 @@ module _ (io : Io) (cs ms : List ℕ) (saved : Bool) where
   unfolding shown
   ends-done ms₀ cs₀ ms₁ cs₁ z e f =
       record {
-        outcome = λ answers. rw (z, messages-length io.sent ms, calls-length io.asked cs);
+        outcome = λ answers. rw (z, messages_length io.sent ms, calls_length io.asked cs);
         done = λ answers. rw z;
         opened = refl;
         messages = λ answers. rw z e;

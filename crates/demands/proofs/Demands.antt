@@ -19,7 +19,7 @@ use Rattle.definition.specs.Shape.{well_shaped}
 use Rattle.definition.specs.Step.{Kept, fresh_kept, stepped, refused, seen, step}
 use Rattle.definition.specs.Whole.{whole, offered}
 use Rattle.account.specs.Account.{Holds, step_of, pasts, final, account, blank}
-use Rattle.account.proofs.Theorem.{demand-3-of}
+use Rattle.account.proofs.Theorem.{demand_3_of}
 use Rattle.bridge.proofs.ShapedLaws.{fresh-seen, fresh-shaped, stays-shaped}
 use Rattle.demands.specs.Running.{Step, Runs, offer_of}
 
@@ -27,20 +27,20 @@ use Rattle.demands.specs.Running.{Step, Runs, offer_of}
 
 module _ (p : List ℕ) (ok : verdict p ≡ 0) (s : Session) (shaped : well_shaped p s ≡ true) where
   -- it keeps what the account's step keeps
-  keeps-so : (event answers : List ℕ) (m c : ℕ) →
+  keeps_so : (event answers : List ℕ) (m c : ℕ) →
       (whole p s event answers m c).kept ≡ (step_of step (view_of p) (seen p s) (pick (ltb m 306 || ltb c 5392) Unknown (read_of event)) answers).kept
   unfolding whole
-  keeps-so event answers m c = rw (eq-eqb (verdict p) 0 ok, shaped) (room-at (ltb m 306 || ltb c 5392))
+  keeps_so event answers m c = rw (eq-eqb (verdict p) 0 ok, shaped) (room_at_lem (ltb m 306 || ltb c 5392))
     where
       read_at : (r : Read) → (offered r p (seen p s) answers).kept ≡ (step_of step (view_of p) (seen p s) r answers).kept
       read_at (Known e) = refl
       read_at Unknown = refl
 
-      room-at : (b : Bool) →
+      room_at_lem : (b : Bool) →
           (pick b (stepped (refused 9) (seen p s)) (offered (read_of event) p (seen p s) answers)).kept
           ≡ (step_of step (view_of p) (seen p s) (pick b Unknown (read_of event)) answers).kept
-      room-at true = refl
-      room-at false = read_at (read_of event)
+      room_at_lem true = refl
+      room_at_lem false = read_at (read_of event)
 
 -- ── all of them ──
 
@@ -50,15 +50,15 @@ unfolding Runs final
 ends_so p ok s shaped [] z q = ap (seen p) q
 ends_so p ok s shaped (x ∷ xs) z (d, q) =
     let next : seen p x.result.session ≡ (step_of step (view_of p) (seen p s) (offer_of x).event x.answers).kept =
-    d.session ∙ keeps-so p ok s shaped x.event x.answers (length x.messages) (length x.calls) in
+    d.session ∙ keeps_so p ok s shaped x.event x.answers (length x.messages) (length x.calls) in
     ap (λ (k : Kept). final step (view_of p) k (map offer_of xs)) (sym next)
     ∙ ends_so p ok x.result.session (stays-shaped _ _ _ _ _ _ _ _ d shaped) xs z q
 
-pub demand-3-running : (p : List ℕ) → verdict p ≡ 0 → (xs : List Step) (z : Session) → Runs p fresh_session xs z →
+pub demand_3_running : (p : List ℕ) → verdict p ≡ 0 → (xs : List Step) (z : Session) → Runs p fresh_session xs z →
     Holds (view_of p) (pasts step (view_of p) fresh_kept (map offer_of xs)) (seen p z) (account (view_of p) 0 (pasts step (view_of p) fresh_kept (map offer_of xs)) blank)
-demand-3-running p ok xs z q =
+demand_3_running p ok xs z q =
     let end : final step (view_of p) fresh_kept (map offer_of xs) ≡ seen p z =
     ap (λ (k : Kept). final step (view_of p) k (map offer_of xs)) (sym (fresh-seen p)) ∙ ends_so p ok fresh_session (fresh-shaped p ok) xs z q in
     subst
     (λ (k : Kept). Holds (view_of p) (pasts step (view_of p) fresh_kept (map offer_of xs)) k (account (view_of p) 0 (pasts step (view_of p) fresh_kept (map offer_of xs)) blank))
-    end (demand-3-of p ok (map offer_of xs))
+    end (demand_3_of p ok (map offer_of xs))

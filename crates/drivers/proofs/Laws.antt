@@ -14,15 +14,15 @@ use borrow.Rule.Slice.PartMut.{put_mid}
 use Rattle.base.specs.Range.{all}
 use Rattle.base.specs.Words.{le16, le32, le64, bytes16, bytes32, bytes64, put16, put32, put64}
 use Rattle.base.specs.WordsLaws.{halves16, halves32, halves64}
-use Rattle.base.specs.Tail.{over, at_front, tail-over}
+use Rattle.base.specs.Tail.{over, at_front, tail_over}
 use Rattle.protocol.specs.Protocol.{bytes_of}
 use Rattle.protocol.specs.declared.Out.{Out}
 use Rattle.protocol.specs.declared.Out.TheVariants.{Led, Position}
 use Rattle.drivers.specs.Answers.{count_at, item_at, items_of, list_if, answer_of, is_unfit, item_count}
-use Rattle.drivers.specs.AnswersLaws.{answer-bounded, answer-there, item-most}
+use Rattle.drivers.specs.AnswersLaws.{answer_bounded, answer_there, item_most}
 use Rattle.drivers.specs.Talk.{going, Got, got, Reply, name_of, plain_call, ask, ask_room, ask_left, ask_fit, is_open, opening, send, send_room}
 use Rattle.drivers.specs.Shown.{call_bytes, call_at, calls_in, message_at, messages_in, stop_in, shown, halt_of, noted_of, opened_in, sent_one, roomless, reply_in, Listing}
-use Rattle.drivers.specs.BytesLaws.{calls-length, messages-length}
+use Rattle.drivers.specs.BytesLaws.{calls_length, messages_length}
 use Rattle.drivers.specs.declared.Call.{Call}
 use Rattle.drivers.specs.declared.Io.{Io}
 use Rattle.drivers.specs.declared.LiveFader.{LiveFader}
@@ -55,21 +55,21 @@ module _ (s t : List ℕ) (a b n : ℕ) (h : (k : ℕ) → k < n → get_or s (a
   pub agree16 : (j : ℕ) → j + 2 ≤ n → le16 s (a + j) ≡ le16 t (b + j)
   agree16 j l = rw (h j (omega arith), agree j 1 (omega arith))
 
-  agree16-at : (j d : ℕ) → j + d + 2 ≤ n → le16 s (a + j + d) ≡ le16 t (b + j + d)
-  agree16-at j d l = rw (add_assoc a j d, add_assoc b j d) (agree16 (j + d) l)
+  agree16_at : (j d : ℕ) → j + d + 2 ≤ n → le16 s (a + j + d) ≡ le16 t (b + j + d)
+  agree16_at j d l = rw (add_assoc a j d, add_assoc b j d) (agree16 (j + d) l)
 
   pub agree32 : (j : ℕ) → j + 4 ≤ n → le32 s (a + j) ≡ le32 t (b + j)
   agree32 j l =
-      ap (λ (x : ℕ). x + 65536 * le16 s (a + j + 2)) (agree16 j (omega arith)) ∙ ap (λ (x : ℕ). le16 t (b + j) + 65536 * x) (agree16-at j 2 (omega arith))
+      ap (λ (x : ℕ). x + 65536 * le16 s (a + j + 2)) (agree16 j (omega arith)) ∙ ap (λ (x : ℕ). le16 t (b + j) + 65536 * x) (agree16_at j 2 (omega arith))
 
-  agree32-at : (j d : ℕ) → j + d + 4 ≤ n → le32 s (a + j + d) ≡ le32 t (b + j + d)
-  agree32-at j d l = rw (add_assoc a j d, add_assoc b j d) (agree32 (j + d) l)
+  agree32_at : (j d : ℕ) → j + d + 4 ≤ n → le32 s (a + j + d) ≡ le32 t (b + j + d)
+  agree32_at j d l = rw (add_assoc a j d, add_assoc b j d) (agree32 (j + d) l)
 
   pub agree64 : (j : ℕ) → j + 8 ≤ n → le64 s (a + j) ≡ le64 t (b + j)
   unfolding le64
   agree64 j l =
       ap (λ (x : ℕ). x + 4294967296 * le32 s (a + j + 4)) (agree32 j (omega arith))
-      ∙ ap (λ (x : ℕ). le32 t (b + j) + 4294967296 * x) (agree32-at j 4 (omega arith))
+      ∙ ap (λ (x : ℕ). le32 t (b + j) + 4294967296 * x) (agree32_at j 4 (omega arith))
 
 -- the bytes of a number are read back
 pub whole32 : (n : ℕ) → le32 (bytes32 n) 0 ≡ n
@@ -89,75 +89,75 @@ drop16 n s j = rw (get_or-drop n s j 0, get_or-drop n s (j + 1) 0, add_assoc n j
 
 -- ── calls in the buffer ──
 
-same-fields : {k k' d d' n n' a a' l l' : ℕ} → k ≡ k' → d ≡ d' → n ≡ n' → a ≡ a' → l ≡ l' →
+same_fields : {k k' d d' n n' a a' l l' : ℕ} → k ≡ k' → d ≡ d' → n ≡ n' → a ≡ a' → l ≡ l' →
     ◌≡◌ {A = Call} (record { kind = k; driver = d; name = n; argument = a; level = l }) (record { kind = k'; driver = d'; name = n'; argument = a'; level = l' })
-same-fields e₁ e₂ e₃ e₄ e₅ = rw (e₁, e₂, e₃, e₄, e₅)
+same_fields e₁ e₂ e₃ e₄ e₅ = rw (e₁, e₂, e₃, e₄, e₅)
 
 call_same : (s t : List ℕ) (a b : ℕ) → ((k : ℕ) → k < 16 → get_or s (a + k) 0 ≡ get_or t (b + k) 0) → call_at s a ≡ call_at t b
 call_same s t a b h =
-    same-fields (rw (add-zero a, add-zero b) at (h 0 (omega arith))) (h 1 (omega arith)) (agree16 s t a b 16 h 2 (omega arith))
+    same_fields (rw (add-zero a, add-zero b) at (h 0 (omega arith))) (h 1 (omega arith)) (agree16 s t a b 16 h 2 (omega arith))
     (agree32 s t a b 16 h 4 (omega arith))
     (agree64 s t a b 16 h 8 (omega arith))
 
 call-whole : (c : Call) → call_at (call_bytes c) 0 ≡ c
 unfolding le64
-call-whole c = same-fields refl refl (halves16 c.name) (whole32 c.argument) (whole64 c.level)
+call-whole c = same_fields refl refl (halves16 c.name) (whole32 c.argument) (whole64 c.level)
 
-call-there : (cs : List ℕ) (i : ℕ) (c : Call) → i + 16 ≤ length cs → call_at (over cs i (call_bytes c)) i ≡ c
-call-there cs i c h =
+call_there : (cs : List ℕ) (i : ℕ) (c : Call) → i + 16 ≤ length cs → call_at (over cs i (call_bytes c)) i ≡ c
+call_there cs i c h =
     call_same (over cs i (call_bytes c)) (call_bytes c) i 0 (λ k l. over-at cs (call_bytes c) i h k l ∙ rw (zero-add k)) ∙ call-whole c
 
-calls-before : (cs : List ℕ) (n m : ℕ) (c : Call) → 16 * m + 16 ≤ length cs → n ≤ m → calls_in n (over cs (16 * m) (call_bytes c)) ≡ calls_in n cs
+calls_before : (cs : List ℕ) (n m : ℕ) (c : Call) → 16 * m + 16 ≤ length cs → n ≤ m → calls_in n (over cs (16 * m) (call_bytes c)) ≡ calls_in n cs
 unfolding calls_in
-calls-before cs zero m c h l = refl
-calls-before cs (suc n) m c h l =
+calls_before cs zero m c h l = refl
+calls_before cs (suc n) m c h l =
     rw (
-      calls-before cs n m c h (omega arith),
+      calls_before cs n m c h (omega arith),
       call_same (over cs (16 * m) (call_bytes c)) cs (16 * n) (16 * n) (λ k q. over-before cs (call_bytes c) (16 * m) h (16 * n + k) (omega arith)),
     )
 
 -- a call that is written behind n others is one call more
-pub calls-more : (cs : List ℕ) (n : ℕ) (c : Call) → 16 * n + 16 ≤ length cs → calls_in (n + 1) (over cs (16 * n) (call_bytes c)) ≡ calls_in n cs ++ (c ∷ [])
+pub calls_more : (cs : List ℕ) (n : ℕ) (c : Call) → 16 * n + 16 ≤ length cs → calls_in (n + 1) (over cs (16 * n) (call_bytes c)) ≡ calls_in n cs ++ (c ∷ [])
 unfolding calls_in
-calls-more cs n c h = rw (add-one, calls-before cs n n c h (omega arith), call-there cs (16 * n) c h)
+calls_more cs n c h = rw (add-one, calls_before cs n n c h (omega arith), call_there cs (16 * n) c h)
 
 -- ── messages in the buffer ──
 
-message-same : (s t : List ℕ) (a b : ℕ) → ((k : ℕ) → k < 3 → get_or s (a + k) 0 ≡ get_or t (b + k) 0) → message_at s a ≡ message_at t b
-message-same s t a b h = rw (rw (add-zero a, add-zero b) at (h 0 (omega arith)), h 1 (omega arith), h 2 (omega arith))
+message_same : (s t : List ℕ) (a b : ℕ) → ((k : ℕ) → k < 3 → get_or s (a + k) 0 ≡ get_or t (b + k) 0) → message_at s a ≡ message_at t b
+message_same s t a b h = rw (rw (add-zero a, add-zero b) at (h 0 (omega arith)), h 1 (omega arith), h 2 (omega arith))
 
 -- every message has three bytes
-message-long : (o : Out) → length (bytes_of o) ≡ 3
+message_long : (o : Out) → length (bytes_of o) ≡ 3
 unfolding bytes_of
-message-long (Led note on) = refl
-message-long (Position channel raw) = refl
+message_long (Led note on) = refl
+message_long (Position channel raw) = refl
 
-message-whole : (o : Out) → message_at (bytes_of o) 0 ≡ bytes_of o
+message_whole : (o : Out) → message_at (bytes_of o) 0 ≡ bytes_of o
 unfolding bytes_of
-message-whole (Led note on) = refl
-message-whole (Position channel raw) = refl
+message_whole (Led note on) = refl
+message_whole (Position channel raw) = refl
 
 module _ (bs : List ℕ) (m : ℕ) (o : Out) (h : 3 * m + 3 ≤ length bs) where
   fits : 3 * m + length (bytes_of o) ≤ length bs
-  fits = rw (message-long o) h
+  fits = rw (message_long o) h
 
-  message-there : message_at (over bs (3 * m) (bytes_of o)) (3 * m) ≡ bytes_of o
-  message-there =
-      message-same (over bs (3 * m) (bytes_of o)) (bytes_of o) (3 * m) 0 (λ k l. over-at bs (bytes_of o) (3 * m) fits k (rw (message-long o) l) ∙ rw (zero-add k))
-      ∙ message-whole o
+  message_there : message_at (over bs (3 * m) (bytes_of o)) (3 * m) ≡ bytes_of o
+  message_there =
+      message_same (over bs (3 * m) (bytes_of o)) (bytes_of o) (3 * m) 0 (λ k l. over-at bs (bytes_of o) (3 * m) fits k (rw (message_long o) l) ∙ rw (zero-add k))
+      ∙ message_whole o
 
-  messages-before : (n : ℕ) → n ≤ m → messages_in n (over bs (3 * m) (bytes_of o)) ≡ messages_in n bs
+  messages_before : (n : ℕ) → n ≤ m → messages_in n (over bs (3 * m) (bytes_of o)) ≡ messages_in n bs
   unfolding messages_in
-  messages-before zero l = refl
-  messages-before (suc n) l =
+  messages_before zero l = refl
+  messages_before (suc n) l =
       rw (
-        messages-before n (omega arith),
-        message-same (over bs (3 * m) (bytes_of o)) bs (3 * n) (3 * n) (λ k q. over-before bs (bytes_of o) (3 * m) fits (3 * n + k) (omega arith)),
+        messages_before n (omega arith),
+        message_same (over bs (3 * m) (bytes_of o)) bs (3 * n) (3 * n) (λ k q. over-before bs (bytes_of o) (3 * m) fits (3 * n + k) (omega arith)),
       )
 
-  pub messages-more : messages_in (m + 1) (over bs (3 * m) (bytes_of o)) ≡ messages_in m bs ++ (bytes_of o ∷ [])
+  pub messages_more : messages_in (m + 1) (over bs (3 * m) (bytes_of o)) ≡ messages_in m bs ++ (bytes_of o ∷ [])
   unfolding messages_in
-  messages-more = rw (add-one, messages-before m (omega arith), message-there)
+  messages_more = rw (add-one, messages_before m (omega arith), message_there)
 
 -- ── answers ──
 
@@ -174,38 +174,38 @@ none_left ans n = go (leb (length ans) n) refl
 
 -- what a list's answer is, by the code's tests: n is its count, and b says whether all its items fit
 module _ (fits : List ℕ → ℕ → Bool) (most : ℕ) (part : List ℕ) (n : ℕ) (e : n ≡ count_at part) where
-  pub list-many : most < n → answer.Unfit ≡ list_if fits most part
-  list-many l = rw (← e, lt-ltb most n l)
+  pub list_many : most < n → answer.Unfit ≡ list_if fits most part
+  list_many l = rw (← e, lt-ltb most n l)
 
-  pub list-short : n ≤ most → length part / 16 ≤ n → answer.Unfit ≡ list_if fits most part
-  list-short l k = rw (← e, le-ltb most n l, le-ltb n (length part / 16) k)
+  pub list_short : n ≤ most → length part / 16 ≤ n → answer.Unfit ≡ list_if fits most part
+  list_short l k = rw (← e, le-ltb most n l, le-ltb n (length part / 16) k)
 
   module _ (l : n ≤ most) (k : n < length part / 16) (b : Bool) (q : b ≡ all n (fits part)) where
-    pub list-good : b ≡ true → answer.List ≡ list_if fits most part
-    list-good t = rw (← e, le-ltb most n l, lt-ltb n (length part / 16) k, ← q, t)
+    pub list_good : b ≡ true → answer.List ≡ list_if fits most part
+    list_good t = rw (← e, le-ltb most n l, lt-ltb n (length part / 16) k, ← q, t)
 
-    pub list-bad : b ≡ false → answer.Unfit ≡ list_if fits most part
-    list-bad t = rw (← e, le-ltb most n l, lt-ltb n (length part / 16) k, ← q, t)
+    pub list_bad : b ≡ false → answer.Unfit ≡ list_if fits most part
+    list_bad t = rw (← e, le-ltb most n l, lt-ltb n (length part / 16) k, ← q, t)
 
 -- what is read from the part that is handed on is read from the answers' rest
 module _ (ans : List ℕ) (n : ℕ) where
-  pub answer-part : (kind : ℕ) (a : Answer) → a ≡ answer_of (take (length ans - n) (drop n ans)) kind → a ≡ answer_of (drop n ans) kind
-  answer-part kind a e = e ∙ ap (λ p. answer_of p kind) (part-all ans n)
+  pub answer_part : (kind : ℕ) (a : Answer) → a ≡ answer_of (take (length ans - n) (drop n ans)) kind → a ≡ answer_of (drop n ans) kind
+  answer_part kind a e = e ∙ ap (λ p. answer_of p kind) (part-all ans n)
 
   pub items-part : (a : Answer) (k : ℕ) → k ≡ item_count a (take (length ans - n) (drop n ans)) → k ≡ item_count a (drop n ans)
   items-part a k e = e ∙ ap (item_count a) (part-all ans n)
 
 -- no items
-pub no-listing : (ans : List ℕ) (kind from : ℕ) → Listing ans kind from 0
-no-listing ans kind from = record { within = λ i l. absurd (omega arith); scenes = omega arith; live = λ _. omega arith }
+pub no_listing : (ans : List ℕ) (kind from : ℕ) → Listing ans kind from 0
+no_listing ans kind from = record { within = λ i l. absurd (omega arith); scenes = omega arith; live = λ _. omega arith }
 
-pub halted-listing : (ans : List ℕ) (kind : ℕ) (io : Io) (c : Call) (why : ℕ) (r : Result) → r ≡ halt_of io c why → Listing ans kind r.from r.count
-halted-listing ans kind io c why r e = rw e (no-listing ans kind 0)
+pub halted_listing : (ans : List ℕ) (kind : ℕ) (io : Io) (c : Call) (why : ℕ) (r : Result) → r ≡ halt_of io c why → Listing ans kind r.from r.count
+halted_listing ans kind io c why r e = rw e (no_listing ans kind 0)
 
 pub listing : (ans : List ℕ) (kind at : ℕ) (a : Answer) (n : ℕ) → at < length ans → a ≡ answer_of (drop at ans) kind → is_unfit a ≡ false → n ≡ item_count a (drop at ans) → Listing ans kind at n
 listing ans kind at a n l e u q =
-    let w : 16 + 16 * n ≤ length (drop at ans) = answer-there (drop at ans) kind a n e u q in
-    let m : (item_count a (drop at ans) ≤ 128) × (kind ≡ 9 → item_count a (drop at ans) ≤ 32) = item-most (drop at ans) kind a (rw e (answer-bounded (drop at ans) kind)) in
+    let w : 16 + 16 * n ≤ length (drop at ans) = answer_there (drop at ans) kind a n e u q in
+    let m : (item_count a (drop at ans) ≤ 128) × (kind ≡ 9 → item_count a (drop at ans) ≤ 32) = item_most (drop at ans) kind a (rw e (answer_bounded (drop at ans) kind)) in
     record { within = λ i h. omega (arith, length-drop at ans); scenes = rw q m.0; live = λ k. rw q (m.1 k) }
 
 -- ── a call ──
@@ -217,14 +217,14 @@ module _ (ans cs ms : List ℕ) (io : Io) (c : Call) where
 
   goes : stop_in io.stop io.due ≡ going → ask c (shown ans io cs ms) ≡ ask_room (leb 337 io.asked) c (shown ans io cs ms)
   unfolding shown ask
-  goes e = rw (e, calls-length io.asked cs)
+  goes e = rw (e, calls_length io.asked cs)
 
   going-at : io.stop ≡ 0 → stop_in io.stop io.due ≡ going
   going-at z = ap (λ n. stop_in n io.due) z
 
-  pub ask-stopped : (io.stop ≡ 0 → ⊥) → got (reply_in ans answer.Refused 0 0) (shown ans io cs ms) ≡ ask c (shown ans io cs ms)
+  pub ask_stopped : (io.stop ≡ 0 → ⊥) → got (reply_in ans answer.Refused 0 0) (shown ans io cs ms) ≡ ask c (shown ans io cs ms)
   unfolding shown ask reply_in items_of
-  ask-stopped h = go io.stop refl
+  ask_stopped h = go io.stop refl
     where
       go : (n : ℕ) → io.stop ≡ n → got (reply_in ans answer.Refused 0 0) (shown ans io cs ms) ≡ ask c (shown ans io cs ms)
       go zero z = absurd (h z)
@@ -232,22 +232,22 @@ module _ (ans cs ms : List ℕ) (io : Io) (c : Call) where
       go (suc (suc zero)) z = rw z
       go (suc (suc (suc n))) z = rw z
 
-  pub ask-full : (r : Result) → r ≡ halt_of io c 3 → io.stop ≡ 0 → 337 ≤ io.asked → result r cs ≡ ask c (shown ans io cs ms)
+  pub ask_full : (r : Result) → r ≡ halt_of io c 3 → io.stop ≡ 0 → 337 ≤ io.asked → result r cs ≡ ask c (shown ans io cs ms)
   unfolding shown reply_in items_of
-  ask-full r e z l = ap (λ r. result r cs) e ∙ sym (goes (going-at z) ∙ rw (le-leb 337 io.asked l))
+  ask_full r e z l = ap (λ r. result r cs) e ∙ sym (goes (going-at z) ∙ rw (le-leb 337 io.asked l))
 
-  left-of : io.asked < 337 → io.stop ≡ 0 → ask c (shown ans io cs ms) ≡ ask_left (leb (length ans) io.read) c (shown ans io cs ms)
+  left_of_lem : io.asked < 337 → io.stop ≡ 0 → ask c (shown ans io cs ms) ≡ ask_left (leb (length ans) io.read) c (shown ans io cs ms)
   unfolding shown
-  left-of l z = goes (going-at z) ∙ rw (lt-leb 337 io.asked l, none_left ans io.read)
+  left_of_lem l z = goes (going-at z) ∙ rw (lt-leb 337 io.asked l, none_left ans io.read)
 
   pub ask-waits : (r : Result) → r ≡ halt_of io c 1 → io.stop ≡ 0 → io.asked < 337 → length ans ≤ io.read → result r cs ≡ ask c (shown ans io cs ms)
   unfolding shown reply_in items_of
-  ask-waits r e z l h = ap (λ r. result r cs) e ∙ sym (left-of l z ∙ rw (le-leb (length ans) io.read h))
+  ask-waits r e z l h = ap (λ r. result r cs) e ∙ sym (left_of_lem l z ∙ rw (le-leb (length ans) io.read h))
 
   fit_of : (a : Answer) → a ≡ answer_of (drop io.read ans) c.kind → io.asked < 337 → io.stop ≡ 0 → io.read < length ans →
       ask c (shown ans io cs ms) ≡ ask_fit (is_unfit a) c a (shown ans io cs ms)
   unfolding shown
-  fit_of a e l z h = left-of l z ∙ rw (lt-leb (length ans) io.read h, ← e)
+  fit_of a e l z h = left_of_lem l z ∙ rw (lt-leb (length ans) io.read h, ← e)
 
   pub ask-declined : (r : Result) (a : Answer) → r ≡ halt_of io c 2 → a ≡ answer_of (drop io.read ans) c.kind → is_unfit a ≡ true →
       io.stop ≡ 0 → io.asked < 337 → io.read < length ans → result r cs ≡ ask c (shown ans io cs ms)
@@ -257,25 +257,25 @@ module _ (ans cs ms : List ℕ) (io : Io) (c : Call) where
   made : (a : Answer) (n : ℕ) → n ≡ item_count a (drop io.read ans) → io.asked < 337 → 5392 ≤ length cs →
       got (reply_in ans a io.read n) (shown ans (noted_of io n) (over cs (16 * io.asked) (call_bytes c)) ms) ≡ ask_fit false c a (shown ans io cs ms)
   unfolding shown reply_in
-  made a n q l k = rw (calls-more cs io.asked c (omega arith), ← q, drop-drop (16 + 16 * n) io.read ans)
+  made a n q l k = rw (calls_more cs io.asked c (omega arith), ← q, drop-drop (16 + 16 * n) io.read ans)
 
   pub ask-made : (u : Io) (a : Answer) (n : ℕ) (w : List ℕ) → a ≡ answer_of (drop io.read ans) c.kind → is_unfit a ≡ false → n ≡ item_count a (drop io.read ans) →
       u ≡ noted_of io n → w ≡ at_front (call_bytes c) (take (length cs - 16 * io.asked) (drop (16 * io.asked) cs)) →
       io.stop ≡ 0 → io.asked < 337 → io.read < length ans → 5392 ≤ length cs →
       got (reply_in ans a io.read n) (shown ans u (put_mid (16 * io.asked) (length cs - 16 * io.asked) cs w) ms) ≡ ask c (shown ans io cs ms)
   ask-made u a n w e f q p v z l h k =
-      rw (p, v, tail-over cs (call_bytes c) (16 * io.asked) (omega arith)) (made a n q l k ∙ sym (fit_of a e l z h ∙ rw f))
+      rw (p, v, tail_over cs (call_bytes c) (16 * io.asked) (omega arith)) (made a n q l k ∙ sym (fit_of a e l z h ∙ rw f))
 
 -- ── a message ──
 
 module _ (ans cs ms : List ℕ) (io : Io) (o : Out) where
   send-goes : io.stop ≡ 0 → send o (shown ans io cs ms) ≡ send_room (leb 102 io.sent) (bytes_of o) (shown ans io cs ms)
   unfolding shown send
-  send-goes z = rw (ap (λ n. stop_in n io.due) z, messages-length io.sent ms)
+  send-goes z = rw (ap (λ n. stop_in n io.due) z, messages_length io.sent ms)
 
-  pub send-stopped : (io.stop ≡ 0 → ⊥) → shown ans io cs ms ≡ send o (shown ans io cs ms)
+  pub send_stopped : (io.stop ≡ 0 → ⊥) → shown ans io cs ms ≡ send o (shown ans io cs ms)
   unfolding shown send
-  send-stopped h = go io.stop refl
+  send_stopped h = go io.stop refl
     where
       go : (n : ℕ) → io.stop ≡ n → shown ans io cs ms ≡ send o (shown ans io cs ms)
       go zero z = absurd (h z)
@@ -283,19 +283,19 @@ module _ (ans cs ms : List ℕ) (io : Io) (o : Out) where
       go (suc (suc zero)) z = rw z
       go (suc (suc (suc n))) z = rw z
 
-  pub send-full : (u : Io) → u ≡ roomless io → io.stop ≡ 0 → 102 ≤ io.sent → shown ans u cs ms ≡ send o (shown ans io cs ms)
+  pub send_full : (u : Io) → u ≡ roomless io → io.stop ≡ 0 → 102 ≤ io.sent → shown ans u cs ms ≡ send o (shown ans io cs ms)
   unfolding shown
-  send-full u e z l = ap (λ u. shown ans u cs ms) e ∙ sym (send-goes z ∙ rw (le-leb 102 io.sent l))
+  send_full u e z l = ap (λ u. shown ans u cs ms) e ∙ sym (send-goes z ∙ rw (le-leb 102 io.sent l))
 
   sent : io.sent < 102 → 306 ≤ length ms →
       shown ans (sent_one io) cs (over ms (3 * io.sent) (bytes_of o)) ≡ send_room false (bytes_of o) (shown ans io cs ms)
   unfolding shown
-  sent l k = rw (messages-more ms io.sent o (omega arith))
+  sent l k = rw (messages_more ms io.sent o (omega arith))
 
   pub send-made : (u : Io) (w : List ℕ) → u ≡ sent_one io → w ≡ at_front (bytes_of o) (take (length ms - 3 * io.sent) (drop (3 * io.sent) ms)) →
       io.stop ≡ 0 → io.sent < 102 → 306 ≤ length ms → shown ans u cs (put_mid (3 * io.sent) (length ms - 3 * io.sent) ms w) ≡ send o (shown ans io cs ms)
   send-made u w e v z l k =
-      rw (e, v, tail-over ms (bytes_of o) (3 * io.sent) (omega arith)) (sent l k ∙ sym (send-goes z ∙ rw (lt-leb 102 io.sent l)))
+      rw (e, v, tail_over ms (bytes_of o) (3 * io.sent) (omega arith)) (sent l k ∙ sym (send-goes z ∙ rw (lt-leb 102 io.sent l)))
 
 -- ── what a function may look at, and the one thing that is set apart from a call ──
 
@@ -308,8 +308,8 @@ module _ (io : Io) (d : ℕ) (h : length io.opened ≡ 16) (l : 16 ≤ d) where
   past : length io.opened ≤ d
   past = omega arith
 
-  pub past-closed : false ≡ get_or io.opened d false
-  past-closed = sym (get_or-eq_default io.opened false past)
+  pub past_closed : false ≡ get_or io.opened d false
+  past_closed = sym (get_or-eq_default io.opened false past)
 
   pub past_same : io ≡ opened_in io d
   past_same = rw (set_out io.opened d true past)
@@ -345,10 +345,10 @@ module _ (ans : List ℕ) (from i : ℕ) where
   item16 : (k j : ℕ) → from + (16 * i + 16) + k ≡ from + j → le16 ans (from + (16 * i + 16) + k) ≡ le16 (drop from ans) j
   item16 k j e = rw e (sym (drop16 from ans j))
 
-  pub fader-there : (n t l g m : ℕ) → n ≡ get_or ans (from + (16 * i + 16) + 1) 0 → t ≡ le16 ans (from + (16 * i + 16) + 2) → l ≡ le16 ans (from + (16 * i + 16) + 4) →
+  pub fader_there : (n t l g m : ℕ) → n ≡ get_or ans (from + (16 * i + 16) + 1) 0 → t ≡ le16 ans (from + (16 * i + 16) + 2) → l ≡ le16 ans (from + (16 * i + 16) + 4) →
       g ≡ le16 ans (from + (16 * i + 16) + 6) → m ≡ le16 ans (from + (16 * i + 16) + 8) →
       ◌≡◌ {A = LiveFader} (record { number = n; target = t; label = l; group = g; mute = m }) (item_at (drop from ans) i)
-  fader-there n t l g m e₁ e₂ e₃ e₄ e₅ =
+  fader_there n t l g m e₁ e₂ e₃ e₄ e₅ =
       let q : from + (16 * i + 16) + 1 ≡ from + (16 * i + 17) = omega arith in
       let f₁ : n ≡ get_or (drop from ans) (16 * i + 17) 0 = e₁ ∙ rw q (sym (get_or-drop from ans (16 * i + 17) 0)) in
       let f₂ : t ≡ le16 (drop from ans) (16 * i + 18) = e₂ ∙ item16 2 (16 * i + 18) (omega arith) in
@@ -364,13 +364,13 @@ pub stores : (l : List ℕ) (c : Call) → 16 ≤ length l →
 unfolding put64 at_front
 stores l c h = sets-eq (call_bytes c) l 0 h
 
-pub stores-length : (l : List ℕ) (c : Call) →
+pub stores_length : (l : List ℕ) (c : Call) →
     length (put64 (put32 (put16 (set (set l 0 c.kind) 1 c.driver) 2 c.name) 4 c.argument) 8 c.level) ≡ length l
 unfolding put64
-stores-length l c = simp length-set
+stores_length l c = simp length-set
 
 -- ── the calls that are made ──
 
-pub plain-listing : (ans : List ℕ) (c : Call) (k d n a from count : ℕ) → c ≡ plain_call k d n a → Listing ans c.kind from count → Listing ans k from count
+pub plain_listing : (ans : List ℕ) (c : Call) (k d n a from count : ℕ) → c ≡ plain_call k d n a → Listing ans c.kind from count → Listing ans k from count
 unfolding plain_call
-plain-listing ans c k d n a from count e l = rw e at l
+plain_listing ans c k d n a from count e l = rw e at l

@@ -10,7 +10,7 @@ use Rattle.protocol.specs.declared.Out.{Out}
 use Rattle.drivers.specs.Answers.{answer_of, is_unfit}
 use Rattle.drivers.specs.Talk.{Stop, going, waits, declined, overrun, Talk, Got, Reply, start, ask, ask_at, ask_room, ask_left, ask_fit, opening, send, send_at, send_room}
 use Rattle.drivers.specs.Paired.{reply_to, behind, after, paired, Fed}
-use Rattle.drivers.specs.PairedLaws.{after-append, paired-append, waits-on, declined-on, overrun-on}
+use Rattle.drivers.specs.PairedLaws.{after-append, paired-append, waits_on, declined_on, overrun_on}
 use Rattle.drivers.specs.declared.Call.{Call}
 
 -- one call more
@@ -33,7 +33,7 @@ pub record Took (ans : List ℕ) (c : Call) (t : Talk) (r : Got Reply) : Type 0 
 
 module _ (ans : List ℕ) (c : Call) (t : Talk) (f : Fed ans t) where
   fit : t.stop ≡ going → (b : Bool) → Took ans c t (ask_fit b c (answer_of t.left c.kind) t)
-  fit q true = record { fed = f; more = λ e. absurd (declined-on e); none = λ _. refl }
+  fit q true = record { fed = f; more = λ e. absurd (declined_on e); none = λ _. refl }
   fit q false =
       record {
         fed = ap (behind c) f ∙ sym (after_more t.calls c ans);
@@ -42,42 +42,42 @@ module _ (ans : List ℕ) (c : Call) (t : Talk) (f : Fed ans t) where
       }
 
   left : t.stop ≡ going → (b : Bool) → Took ans c t (ask_left b c t)
-  left q true = record { fed = f; more = λ e. absurd (waits-on e); none = λ _. refl }
+  left q true = record { fed = f; more = λ e. absurd (waits_on e); none = λ _. refl }
   left q false = fit q (is_unfit (answer_of t.left c.kind))
 
   room : t.stop ≡ going → (b : Bool) → Took ans c t (ask_room b c t)
-  room q true = record { fed = f; more = λ e. absurd (overrun-on e); none = λ _. refl }
+  room q true = record { fed = f; more = λ e. absurd (overrun_on e); none = λ _. refl }
   room q false = left q (eqb (length t.left) 0)
 
-  at-stop : (s : Stop) → t.stop ≡ s → Took ans c t (ask_at s c t)
-  at-stop going q = room q (leb 337 (length t.calls))
-  at-stop (waits d) q = record { fed = f; more = λ e. absurd (waits-on (sym q ∙ e)); none = λ _. refl }
-  at-stop declined q = record { fed = f; more = λ e. absurd (declined-on (sym q ∙ e)); none = λ _. refl }
-  at-stop overrun q = record { fed = f; more = λ e. absurd (overrun-on (sym q ∙ e)); none = λ _. refl }
+  at_stop : (s : Stop) → t.stop ≡ s → Took ans c t (ask_at s c t)
+  at_stop going q = room q (leb 337 (length t.calls))
+  at_stop (waits d) q = record { fed = f; more = λ e. absurd (waits_on (sym q ∙ e)); none = λ _. refl }
+  at_stop declined q = record { fed = f; more = λ e. absurd (declined_on (sym q ∙ e)); none = λ _. refl }
+  at_stop overrun q = record { fed = f; more = λ e. absurd (overrun_on (sym q ∙ e)); none = λ _. refl }
 
 pub ask-took : (ans : List ℕ) (c : Call) (t : Talk) → Fed ans t → Took ans c t (ask c t)
 unfolding ask
-ask-took ans c t f = at-stop ans c t f t.stop refl
+ask-took ans c t f = at_stop ans c t f t.stop refl
 
 -- an event starts so, and what is no call takes no answer
-pub start-fed : (ans : List ℕ) (opened : List Bool) → Fed ans (start ans opened)
+pub start_fed : (ans : List ℕ) (opened : List Bool) → Fed ans (start ans opened)
 unfolding after
-start-fed ans opened = refl
+start_fed ans opened = refl
 
-pub opening-fed : (ans : List ℕ) (driver : ℕ) (t : Talk) → Fed ans t → Fed ans (opening driver t)
+pub opening_fed : (ans : List ℕ) (driver : ℕ) (t : Talk) → Fed ans t → Fed ans (opening driver t)
 unfolding opening
-opening-fed ans driver t f = f
+opening_fed ans driver t f = f
 
-pub send-fed : (ans : List ℕ) (o : Out) (t : Talk) → Fed ans t → Fed ans (send o t)
+pub send_fed : (ans : List ℕ) (o : Out) (t : Talk) → Fed ans t → Fed ans (send o t)
 unfolding send
-send-fed ans o t f = at t.stop
+send_fed ans o t f = at t.stop
   where
-    in-room : (b : Bool) → Fed ans (send_room b (bytes_of o) t)
-    in-room true = f
-    in-room false = f
+    in_room : (b : Bool) → Fed ans (send_room b (bytes_of o) t)
+    in_room true = f
+    in_room false = f
 
     at : (s : Stop) → Fed ans (send_at s (bytes_of o) t)
-    at going = in-room (leb 102 (length t.messages))
+    at going = in_room (leb 102 (length t.messages))
     at (waits d) = f
     at declined = f
     at overrun = f

@@ -21,8 +21,8 @@ pub record Bounded (part : List ℕ) (kind : ℕ) (a : Answer) : Type 0 where
   pub live : is_list a ≡ true → kind ≡ 9 → count_at part ≤ 32
 
 module _ (part : List ℕ) (kind : ℕ) where
-  no-list : (a : Answer) → is_list a ≡ false → Bounded part kind a
-  no-list a e =
+  no_list : (a : Answer) → is_list a ≡ false → Bounded part kind a
+  no_list a e =
       record {
         within = λ y. absurd (false≢true (sym e ∙ y));
         scenes = λ y. absurd (false≢true (sym e ∙ y));
@@ -38,12 +38,12 @@ module _ (part : List ℕ) (kind : ℕ) where
   neither true x y f g = f
   neither false x y f g = g
 
-  list-bounded : (fits : List ℕ → ℕ → Bool) (most : ℕ) → most ≤ 128 → (kind ≡ 9 → most ≤ 32) → Bounded part kind (list_if fits most part)
-  list-bounded fits most h k =
-      either (ltb most (count_at part)) _ _ (λ _. no-list answer.Unfit refl)
+  list_bounded : (fits : List ℕ → ℕ → Bool) (most : ℕ) → most ≤ 128 → (kind ≡ 9 → most ≤ 32) → Bounded part kind (list_if fits most part)
+  list_bounded fits most h k =
+      either (ltb most (count_at part)) _ _ (λ _. no_list answer.Unfit refl)
       (λ e. either (ltb (count_at part) (length part / 16)) _ _
-      (λ f. either (all (count_at part) (fits part)) _ _ (λ _. found e f) (λ _. no-list answer.Unfit refl))
-      (λ _. no-list answer.Unfit refl))
+      (λ f. either (all (count_at part) (fits part)) _ _ (λ _. found e f) (λ _. no_list answer.Unfit refl))
+      (λ _. no_list answer.Unfit refl))
     where
       found : ltb most (count_at part) ≡ false → ltb (count_at part) (length part / 16) ≡ true → Bounded part kind answer.List
       found e f =
@@ -54,56 +54,56 @@ module _ (part : List ℕ) (kind : ℕ) where
             live = λ _ q. omega (arith, k q);
           }
 
-  to-scenes : (k : ℕ) → kind ≡ 6 → Bounded part kind (to_scenes k part)
+  to_scenes_lem : (k : ℕ) → kind ≡ 6 → Bounded part kind (to_scenes k part)
   unfolding to_scenes scene_list
-  to-scenes k e = either (eqb k 6) _ _ (λ _. list-bounded item_fits 128 (omega arith) (λ q. absurd (omega arith))) (λ _. no-list answer.Unfit refl)
+  to_scenes_lem k e = either (eqb k 6) _ _ (λ _. list_bounded item_fits 128 (omega arith) (λ q. absurd (omega arith))) (λ _. no_list answer.Unfit refl)
 
-  to-live : (k : ℕ) → Bounded part kind (to_live k part)
+  to_live_lem : (k : ℕ) → Bounded part kind (to_live k part)
   unfolding to_live live_list
-  to-live k = either (eqb k 6) _ _ (λ _. list-bounded live_fits 32 (omega arith) (λ q. omega arith)) (λ _. no-list answer.Unfit refl)
+  to_live_lem k = either (eqb k 6) _ _ (λ _. list_bounded live_fits 32 (omega arith) (λ q. omega arith)) (λ _. no_list answer.Unfit refl)
 
   to_read_lem : (k : ℕ) → is_list (to_read k part) ≡ false
   unfolding to_read
   to_read_lem k = neither (eqb k 2) _ _ refl (neither (eqb k 3) _ _ refl refl)
 
-  to-playing : (k : ℕ) → is_list (to_playing k part) ≡ false
+  to_playing_lem : (k : ℕ) → is_list (to_playing k part) ≡ false
   unfolding to_playing yes_no
-  to-playing k =
+  to_playing_lem k =
       neither (eqb k 4) _ _ (neither (eqb (get_or part 1 0) 0) _ _ refl (neither (eqb (get_or part 1 0) 1) _ _ refl refl)) (neither (eqb k 3) _ _ refl refl)
 
-  to-current : (k : ℕ) → is_list (to_current k part) ≡ false
+  to_current_lem : (k : ℕ) → is_list (to_current k part) ≡ false
   unfolding to_current
-  to-current k = neither (eqb k 5) _ _ refl (neither (eqb k 3) _ _ refl refl)
+  to_current_lem k = neither (eqb k 5) _ _ refl (neither (eqb k 3) _ _ refl refl)
 
-  to-other : (k : ℕ) → is_list (to_other k) ≡ false
+  to_other_lem : (k : ℕ) → is_list (to_other k) ≡ false
   unfolding to_other
-  to-other k = neither (eqb k 1) _ _ refl refl
+  to_other_lem k = neither (eqb k 1) _ _ refl refl
 
-  to-call : (k : ℕ) → Bounded part kind (answer_to kind k part)
-  to-call k =
-      either (eqb kind 1) _ _ (λ _. no-list _ (to_read_lem k))
-      (λ _. either (eqb kind 5) _ _ (λ _. no-list _ (to-playing k))
-      (λ _. either (eqb kind 6) _ _ (λ e. to-scenes k (eqb-true kind 6 e))
-      (λ _. either (eqb kind 7) _ _ (λ _. no-list _ (to-current k))
-      (λ _. either (eqb kind 9) _ _ (λ _. to-live k) (λ _. no-list _ (to-other k))))))
+  to_call : (k : ℕ) → Bounded part kind (answer_to kind k part)
+  to_call k =
+      either (eqb kind 1) _ _ (λ _. no_list _ (to_read_lem k))
+      (λ _. either (eqb kind 5) _ _ (λ _. no_list _ (to_playing_lem k))
+      (λ _. either (eqb kind 6) _ _ (λ e. to_scenes_lem k (eqb-true kind 6 e))
+      (λ _. either (eqb kind 7) _ _ (λ _. no_list _ (to_current_lem k))
+      (λ _. either (eqb kind 9) _ _ (λ _. to_live_lem k) (λ _. no_list _ (to_other_lem k))))))
 
-  pub answer-bounded : Bounded part kind (answer_of part kind)
+  pub answer_bounded : Bounded part kind (answer_of part kind)
   unfolding answer_of
-  answer-bounded =
-      either (ltb (length part) 16) _ _ (λ _. no-list answer.Unfit refl)
-      (λ _. either (eqb (get_or part 0 0) 0) _ _ (λ _. no-list answer.Refused refl) (λ _. to-call (get_or part 0 0)))
+  answer_bounded =
+      either (ltb (length part) 16) _ _ (λ _. no_list answer.Unfit refl)
+      (λ _. either (eqb (get_or part 0 0) 0) _ _ (λ _. no_list answer.Refused refl) (λ _. to_call (get_or part 0 0)))
 
   -- an answer that fits has its own record
-  fit-long : is_unfit (answer_of part kind) ≡ false → 16 ≤ length part
+  fit_long : is_unfit (answer_of part kind) ≡ false → 16 ≤ length part
   unfolding answer_of
-  fit-long e = go (ltb (length part) 16) refl _ e
+  fit_long e = go (ltb (length part) 16) refl _ e
     where
       go : (b : Bool) → ltb (length part) 16 ≡ b → (y : Answer) → is_unfit (pick b answer.Unfit y) ≡ false → 16 ≤ length part
       go true q y u = absurd (true≢false u)
       go false q y u = ltb-false (length part) 16 q
 
-  pub part-long : (a : Answer) → a ≡ answer_of part kind → is_unfit a ≡ false → 16 ≤ length part
-  part-long a e u = fit-long (rw e at u)
+  pub part_long : (a : Answer) → a ≡ answer_of part kind → is_unfit a ≡ false → 16 ≤ length part
+  part_long a e u = fit_long (rw e at u)
 
   -- how many items stand behind it
   counted : (a : Answer) → Bounded part kind a → 16 ≤ length part → 16 + 16 * item_count a part ≤ length part
@@ -115,15 +115,15 @@ module _ (part : List ℕ) (kind : ℕ) where
       go false e = omega arith
 
   -- the answer and its items are there
-  pub answer-there : (a : Answer) (n : ℕ) → a ≡ answer_of part kind → is_unfit a ≡ false → n ≡ item_count a part → 16 + 16 * n ≤ length part
-  answer-there a n e u q =
-      let b : Bounded part kind a = rw e answer-bounded in
-      let l : 16 ≤ length part = fit-long (rw e at u) in
+  pub answer_there : (a : Answer) (n : ℕ) → a ≡ answer_of part kind → is_unfit a ≡ false → n ≡ item_count a part → 16 + 16 * n ≤ length part
+  answer_there a n e u q =
+      let b : Bounded part kind a = rw e answer_bounded in
+      let l : 16 ≤ length part = fit_long (rw e at u) in
       rw q (counted a b l)
 
-  pub item-most : (a : Answer) → Bounded part kind a → (item_count a part ≤ 128) × (kind ≡ 9 → item_count a part ≤ 32)
+  pub item_most : (a : Answer) → Bounded part kind a → (item_count a part ≤ 128) × (kind ≡ 9 → item_count a part ≤ 32)
   unfolding item_count
-  item-most a h = go (is_list a) refl
+  item_most a h = go (is_list a) refl
     where
       go : (b : Bool) → is_list a ≡ b → (pick b (count_at part) 0 ≤ 128) × (kind ≡ 9 → pick b (count_at part) 0 ≤ 32)
       go true e = (h.scenes e, h.live e)

@@ -12,37 +12,37 @@ use Rattle.drivers.specs.declared.Call.{Call}
 -- ── parts of a list ──
 
 -- a part, and the part that follows it
-pub take-both : (s : List ℕ) (a n b m : ℕ) → a + n ≡ b → take n (drop a s) ++ take m (drop b s) ≡ take (n + m) (drop a s)
-take-both s a n b m e = rw (← e, ← drop-drop n a s) (sym (take-add n m (drop a s)))
+pub take_both : (s : List ℕ) (a n b m : ℕ) → a + n ≡ b → take n (drop a s) ++ take m (drop b s) ≡ take (n + m) (drop a s)
+take_both s a n b m e = rw (← e, ← drop-drop n a s) (sym (take-add n m (drop a s)))
 
-pub take-two : (s : List ℕ) (j : ℕ) → j + 2 ≤ length s → get_or s j 0 ∷ get_or s (j + 1) 0 ∷ [] ≡ take 2 (drop j s)
-take-two s j h = rw (drop-cons s j 0 (omega arith), drop-cons s (suc j) 0 (omega arith), add-one)
+pub take_two : (s : List ℕ) (j : ℕ) → j + 2 ≤ length s → get_or s j 0 ∷ get_or s (j + 1) 0 ∷ [] ≡ take 2 (drop j s)
+take_two s j h = rw (drop-cons s j 0 (omega arith), drop-cons s (suc j) 0 (omega arith), add-one)
 
-pub take-three : (s : List ℕ) (j : ℕ) → j + 3 ≤ length s → get_or s j 0 ∷ get_or s (j + 1) 0 ∷ get_or s (j + 2) 0 ∷ [] ≡ take 3 (drop j s)
-take-three s j h =
+pub take_three : (s : List ℕ) (j : ℕ) → j + 3 ≤ length s → get_or s j 0 ∷ get_or s (j + 1) 0 ∷ get_or s (j + 2) 0 ∷ [] ≡ take 3 (drop j s)
+take_three s j h =
     let e : j + 1 ≡ suc j = omega arith in
     let f : j + 2 ≡ suc (suc j) = omega arith in
     rw (drop-cons s j 0 (omega arith), drop-cons s (suc j) 0 (omega arith), drop-cons s (suc (suc j)) 0 (omega arith), e, f)
 
 -- ── numbers that are read and written again ──
 
-low-2 : (x y : ℕ) → x < 256 → (x + 256 * y) % 256 ≡ x
-low-2 x y h = omega arith
+low_2 : (x y : ℕ) → x < 256 → (x + 256 * y) % 256 ≡ x
+low_2 x y h = omega arith
 
-high-2 : (x y : ℕ) → x < 256 → (x + 256 * y) / 256 ≡ y
-high-2 x y h = omega arith
+high_2 : (x y : ℕ) → x < 256 → (x + 256 * y) / 256 ≡ y
+high_2 x y h = omega arith
 
-low-4 : (x y : ℕ) → x < 65536 → (x + 65536 * y) % 65536 ≡ x
-low-4 x y h = omega arith
+low_4 : (x y : ℕ) → x < 65536 → (x + 65536 * y) % 65536 ≡ x
+low_4 x y h = omega arith
 
-high-4 : (x y : ℕ) → x < 65536 → (x + 65536 * y) / 65536 ≡ y
-high-4 x y h = omega arith
+high_4 : (x y : ℕ) → x < 65536 → (x + 65536 * y) / 65536 ≡ y
+high_4 x y h = omega arith
 
-low-8 : (x y : ℕ) → x < 4294967296 → (x + 4294967296 * y) % 4294967296 ≡ x
-low-8 x y h = omega arith
+low_8 : (x y : ℕ) → x < 4294967296 → (x + 4294967296 * y) % 4294967296 ≡ x
+low_8 x y h = omega arith
 
-high-8 : (x y : ℕ) → x < 4294967296 → (x + 4294967296 * y) / 4294967296 ≡ y
-high-8 x y h = omega arith
+high_8 : (x y : ℕ) → x < 4294967296 → (x + 4294967296 * y) / 4294967296 ≡ y
+high_8 x y h = omega arith
 
 module _ (s : List ℕ) (h : (j : ℕ) → get_or s j 0 < 256) where
   less16 : (j : ℕ) → le16 s j < 65536
@@ -52,24 +52,24 @@ module _ (s : List ℕ) (h : (j : ℕ) → get_or s j 0 < 256) where
   less32 j = omega (arith, less16 j, less16 (j + 2))
 
   pub back16 : (j : ℕ) → j + 2 ≤ length s → bytes16 (le16 s j) ≡ take 2 (drop j s)
-  back16 j l = rw (low-2 (get_or s j 0) (get_or s (j + 1) 0) (h j), high-2 (get_or s j 0) (get_or s (j + 1) 0) (h j)) (take-two s j l)
+  back16 j l = rw (low_2 (get_or s j 0) (get_or s (j + 1) 0) (h j), high_2 (get_or s j 0) (get_or s (j + 1) 0) (h j)) (take_two s j l)
 
   pub back32 : (j : ℕ) → j + 4 ≤ length s → bytes32 (le32 s j) ≡ take 4 (drop j s)
   back32 j l =
-      ap (λ (n : ℕ). bytes16 n ++ bytes16 (le32 s j / 65536)) (low-4 (le16 s j) (le16 s (j + 2)) (less16 j))
-      ∙ ap (λ (n : ℕ). bytes16 (le16 s j) ++ bytes16 n) (high-4 (le16 s j) (le16 s (j + 2)) (less16 j))
+      ap (λ (n : ℕ). bytes16 n ++ bytes16 (le32 s j / 65536)) (low_4 (le16 s j) (le16 s (j + 2)) (less16 j))
+      ∙ ap (λ (n : ℕ). bytes16 (le16 s j) ++ bytes16 n) (high_4 (le16 s j) (le16 s (j + 2)) (less16 j))
       ∙ ap (λ (l : List ℕ). l ++ bytes16 (le16 s (j + 2))) (back16 j (omega arith))
       ∙ ap (λ (l : List ℕ). take 2 (drop j s) ++ l) (back16 (j + 2) (omega arith))
-      ∙ take-both s j 2 (j + 2) 2 refl
+      ∙ take_both s j 2 (j + 2) 2 refl
 
   pub back64 : (j : ℕ) → j + 8 ≤ length s → bytes64 (le64 s j) ≡ take 8 (drop j s)
   unfolding le64
   back64 j l =
-      ap (λ (n : ℕ). bytes32 n ++ bytes32 (le64 s j / 4294967296)) (low-8 (le32 s j) (le32 s (j + 4)) (less32 j))
-      ∙ ap (λ (n : ℕ). bytes32 (le32 s j) ++ bytes32 n) (high-8 (le32 s j) (le32 s (j + 4)) (less32 j))
+      ap (λ (n : ℕ). bytes32 n ++ bytes32 (le64 s j / 4294967296)) (low_8 (le32 s j) (le32 s (j + 4)) (less32 j))
+      ∙ ap (λ (n : ℕ). bytes32 (le32 s j) ++ bytes32 n) (high_8 (le32 s j) (le32 s (j + 4)) (less32 j))
       ∙ ap (λ (l : List ℕ). l ++ bytes32 (le32 s (j + 4))) (back32 j (omega arith))
       ∙ ap (λ (l : List ℕ). take 4 (drop j s) ++ l) (back32 (j + 4) (omega arith))
-      ∙ take-both s j 4 (j + 4) 4 refl
+      ∙ take_both s j 4 (j + 4) 4 refl
 
   -- the record of the call that starts at place a
   pub call-bytes : (a : ℕ) → a + 16 ≤ length s → call_bytes (call_at s a) ≡ take 16 (drop a s)
@@ -77,10 +77,10 @@ module _ (s : List ℕ) (h : (j : ℕ) → get_or s j 0 < 256) where
       ap (λ (p : List ℕ). get_or s a 0 ∷ get_or s (a + 1) 0 ∷ (p ++ (bytes32 (le32 s (a + 4)) ++ bytes64 (le64 s (a + 8))))) (back16 (a + 2) (omega arith))
       ∙ ap (λ (p : List ℕ). get_or s a 0 ∷ get_or s (a + 1) 0 ∷ (take 2 (drop (a + 2) s) ++ (p ++ bytes64 (le64 s (a + 8))))) (back32 (a + 4) (omega arith))
       ∙ ap (λ (p : List ℕ). get_or s a 0 ∷ get_or s (a + 1) 0 ∷ (take 2 (drop (a + 2) s) ++ (take 4 (drop (a + 4) s) ++ p))) (back64 (a + 8) (omega arith))
-      ∙ ap (λ (p : List ℕ). get_or s a 0 ∷ get_or s (a + 1) 0 ∷ (take 2 (drop (a + 2) s) ++ p)) (take-both s (a + 4) 4 (a + 8) 8 (omega arith))
-      ∙ ap (λ (p : List ℕ). get_or s a 0 ∷ get_or s (a + 1) 0 ∷ p) (take-both s (a + 2) 2 (a + 4) 12 (omega arith))
-      ∙ ap (λ (p : List ℕ). p ++ take 14 (drop (a + 2) s)) (take-two s a (omega arith))
-      ∙ take-both s a 2 (a + 2) 14 refl
+      ∙ ap (λ (p : List ℕ). get_or s a 0 ∷ get_or s (a + 1) 0 ∷ (take 2 (drop (a + 2) s) ++ p)) (take_both s (a + 4) 4 (a + 8) 8 (omega arith))
+      ∙ ap (λ (p : List ℕ). get_or s a 0 ∷ get_or s (a + 1) 0 ∷ p) (take_both s (a + 2) 2 (a + 4) 12 (omega arith))
+      ∙ ap (λ (p : List ℕ). p ++ take 14 (drop (a + 2) s)) (take_two s a (omega arith))
+      ∙ take_both s a 2 (a + 2) 14 refl
 
 -- ── the buffers' first bytes ──
 
@@ -94,31 +94,31 @@ unfolding encode
 encode-more cs c = ap joined (map-append call_bytes cs (c ∷ [])) ∙ joined-more (map call_bytes cs) (call_bytes c)
 
 -- the first 16 * n bytes of a buffer of bytes are the records of its first n calls
-pub bytes-calls : (bs : List ℕ) → ((j : ℕ) → get_or bs j 0 < 256) → (n : ℕ) → 16 * n ≤ length bs → encode (calls_in n bs) ≡ take (16 * n) bs
+pub bytes_calls : (bs : List ℕ) → ((j : ℕ) → get_or bs j 0 < 256) → (n : ℕ) → 16 * n ≤ length bs → encode (calls_in n bs) ≡ take (16 * n) bs
 unfolding calls_in encode joined
-bytes-calls bs h zero l = refl
-bytes-calls bs h (suc n) l =
+bytes_calls bs h zero l = refl
+bytes_calls bs h (suc n) l =
     let e : 16 * suc n ≡ 16 * n + 16 = omega arith in
-    rw (e, encode-more (calls_in n bs) (call_at bs (16 * n)), bytes-calls bs h n (omega arith), call-bytes bs h (16 * n) (omega arith))
+    rw (e, encode-more (calls_in n bs) (call_at bs (16 * n)), bytes_calls bs h n (omega arith), call-bytes bs h (16 * n) (omega arith))
     (sym (take-add (16 * n) 16 bs))
 
 -- the first 3 * n bytes of a buffer are its first n messages
-pub bytes-messages : (bs : List ℕ) (n : ℕ) → 3 * n ≤ length bs → joined (messages_in n bs) ≡ take (3 * n) bs
+pub bytes_messages : (bs : List ℕ) (n : ℕ) → 3 * n ≤ length bs → joined (messages_in n bs) ≡ take (3 * n) bs
 unfolding messages_in joined
-bytes-messages bs zero l = refl
-bytes-messages bs (suc n) l =
+bytes_messages bs zero l = refl
+bytes_messages bs (suc n) l =
     let e : 3 * suc n ≡ 3 * n + 3 = omega arith in
-    rw (e, joined-more (messages_in n bs) (message_at bs (3 * n)), bytes-messages bs n (omega arith), take-three bs (3 * n) (omega arith))
+    rw (e, joined-more (messages_in n bs) (message_at bs (3 * n)), bytes_messages bs n (omega arith), take_three bs (3 * n) (omega arith))
     (sym (take-add (3 * n) 3 bs))
 
 -- ── how many calls and messages are read from a buffer ──
 
-pub calls-length : (n : ℕ) (cs : List ℕ) → length (calls_in n cs) ≡ n
+pub calls_length : (n : ℕ) (cs : List ℕ) → length (calls_in n cs) ≡ n
 unfolding calls_in
-calls-length zero cs = refl
-calls-length (suc n) cs = omega (arith, length-append (calls_in n cs) (call_at cs (16 * n) ∷ []), calls-length n cs)
+calls_length zero cs = refl
+calls_length (suc n) cs = omega (arith, length-append (calls_in n cs) (call_at cs (16 * n) ∷ []), calls_length n cs)
 
-pub messages-length : (n : ℕ) (bs : List ℕ) → length (messages_in n bs) ≡ n
+pub messages_length : (n : ℕ) (bs : List ℕ) → length (messages_in n bs) ≡ n
 unfolding messages_in
-messages-length zero bs = refl
-messages-length (suc n) bs = omega (arith, length-append (messages_in n bs) (message_at bs (3 * n) ∷ []), messages-length n bs)
+messages_length zero bs = refl
+messages_length (suc n) bs = omega (arith, length-append (messages_in n bs) (message_at bs (3 * n) ∷ []), messages_length n bs)

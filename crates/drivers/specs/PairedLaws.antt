@@ -15,11 +15,11 @@ unfolding paired after
 paired-append [] m ans = refl
 paired-append (c ∷ l) m ans = ap (λ (r : List Asked). record { call = c; reply = reply_to c ans } ∷ r) (paired-append l m (behind c ans))
 
-pub waits-on : {c : Call} → waits c ≡ going → ⊥
-waits-on e = let z : ◌≡◌ {A = ℕ} 0 1 = cc in omega arith
+pub waits_on : {c : Call} → waits c ≡ going → ⊥
+waits_on e = let z : ◌≡◌ {A = ℕ} 0 1 = cc in omega arith
 
-pub declined-on : declined ≡ going → ⊥
-declined-on e = let z : ◌≡◌ {A = ℕ} 0 1 = cc in omega arith
+pub declined_on : declined ≡ going → ⊥
+declined_on e = let z : ◌≡◌ {A = ℕ} 0 1 = cc in omega arith
 
-pub overrun-on : overrun ≡ going → ⊥
-overrun-on e = let z : ◌≡◌ {A = ℕ} 0 1 = cc in omega arith
+pub overrun_on : overrun ≡ going → ⊥
+overrun_on e = let z : ◌≡◌ {A = ℕ} 0 1 = cc in omega arith

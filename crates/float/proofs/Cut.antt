@@ -5,7 +5,7 @@ use lib.Ieee.{Float, nan, inf, fin, binary64, up, down, of_bits, is_nan, to_unsi
 use lib.Ieee.Fits.{down_pos}
 use lib.Ieee.Exact.{HasValue}
 use lib.Ieee.Nearest.{div_same}
-use Rattle.float.proofs.Bits.{minus, exponent, fraction, digits, digits_lt, digits-is, shift, shift_is, bits-value, bits-inf, bits-minus}
+use Rattle.float.proofs.Bits.{minus, exponent, fraction, digits, digits_lt, digits-is, shift, shift_is, bits_value, bits_inf, bits-minus}
 
 low : (q k l : ℕ) → q < 2 ^ 53 → 53 + k ≤ l → q * 2 ^ k / 2 ^ l ≡ 0
 low q k l h g = div-eq_of_lt (lt_of_lt_of_le (shl_lt 53 k h) (pow_mono g))
@@ -19,17 +19,17 @@ high q k l h g = (le-div_iff_mul-le (pow_pos l)).1 (room (2 ^ l) (q * 2 ^ k) (le
 mid : (q k s : ℕ) → q * 2 ^ k / 2 ^ (k + s) ≡ q / 2 ^ s
 mid q k s = div_same (q * 2 ^ k) (2 ^ (k + s)) q (2 ^ s) (pow_pos (k + s)) (pow_pos s) (mul_assoc q (2 ^ k) (2 ^ s) ∙ ap (λ (x : ℕ). q * x) (sym (pow-add 2 k s)))
 
-pub fits-32 : (q s : ℕ) → q < 2 ^ 53 → 21 ≤ s → q / 2 ^ s < 2 ^ 32
-fits-32 q s h g = shr_lt 32 s (lt_of_lt_of_le h (pow_mono (more s g)))
+pub fits_32 : (q s : ℕ) → q < 2 ^ 53 → 21 ≤ s → q / 2 ^ s < 2 ^ 32
+fits_32 q s h g = shr_lt 32 s (lt_of_lt_of_le h (pow_mono (more s g)))
   where
     more : (s : ℕ) → 21 ≤ s → 53 ≤ 32 + s
     more s g = omega arith
 
-pub cut-val : (x : Float) (s : Bool) (a c : ℕ) → 0 < c → HasValue x s a c → to_unsigned 32 x ≡ cond s 0 (min (a / c) (2 ^ 32 - 1))
+pub cut_val : (x : Float) (s : Bool) (a c : ℕ) → 0 < c → HasValue x s a c → to_unsigned 32 x ≡ cond s 0 (min (a / c) (2 ^ 32 - 1))
 unfolding to_unsigned
-cut-val nan s a c C v = absurd v
-cut-val (inf t) s a c C v = absurd v
-cut-val (fin t m e) s a c C v =
+cut_val nan s a c C v = absurd v
+cut_val (inf t) s a c C v = absurd v
+cut_val (fin t m e) s a c C v =
     ap (λ (b : Bool). cond b 0 (min (m * up e / down e) (2 ^ 32 - 1))) v.0
     ∙ ap (λ (n : ℕ). cond s 0 (min n (2 ^ 32 - 1))) (div_same (m * up e) (down e) a c (down_pos e) C v.1)
 
@@ -41,11 +41,11 @@ cut-minus (inf false) t = elim t [ ]
 cut-minus (fin true m e) t = refl
 cut-minus (fin false m e) t = elim t [ ]
 
-pub cut-negative : (b : ℕ) → 2 ^ 63 ≤ b → to_unsigned 32 (of_bits binary64 b) ≡ 0
-cut-negative b h = cut-minus (of_bits binary64 b) (bits-minus b h)
+pub cut_negative : (b : ℕ) → 2 ^ 63 ≤ b → to_unsigned 32 (of_bits binary64 b) ≡ 0
+cut_negative b h = cut-minus (of_bits binary64 b) (bits-minus b h)
 
 by_value : (b : ℕ) → b < 2 ^ 63 → exponent b < 2047 → to_unsigned 32 (of_bits binary64 b) ≡ min (digits (exponent b) (fraction b) * 2 ^ shift (exponent b) / 2 ^ 1074) (2 ^ 32 - 1)
-by_value b h g = cut-val (of_bits binary64 b) false (digits (exponent b) (fraction b) * 2 ^ shift (exponent b)) (2 ^ 1074) (pow_pos 1074) (bits-value b h g)
+by_value b h g = cut_val (of_bits binary64 b) false (digits (exponent b) (fraction b) * 2 ^ shift (exponent b)) (2 ^ 1074) (pow_pos 1074) (bits_value b h g)
 
 pub cut_low : (b : ℕ) → b < 2 ^ 63 → exponent b < 1023 → to_unsigned 32 (of_bits binary64 b) ≡ 0
 cut_low b h g =
@@ -60,14 +60,14 @@ cut_high b h g n = go (ltb (exponent b) 2047) (ltb→lt (exponent b) 2047) (nltb
     go true p q =
         by_value b h (p tt)
         ∙ min-eq_right (high (digits (exponent b) (fraction b)) (shift (exponent b)) 1074 (omega (arith, digits-is (exponent b) (fraction b) (omega arith))) (omega (arith, shift_is (exponent b))))
-    go false p q = ap (to_unsigned 32) (bits-inf b h (q tt) n)
+    go false p q = ap (to_unsigned 32) (bits_inf b h (q tt) n)
 
-pub cut-mid : (b : ℕ) → b < 2 ^ 63 → 1023 ≤ exponent b → exponent b ≤ 1054 → to_unsigned 32 (of_bits binary64 b) ≡ (fraction b + 2 ^ 52) / 2 ^ (1075 - exponent b)
-cut-mid b h l u =
+pub cut_mid : (b : ℕ) → b < 2 ^ 63 → 1023 ≤ exponent b → exponent b ≤ 1054 → to_unsigned 32 (of_bits binary64 b) ≡ (fraction b + 2 ^ 52) / 2 ^ (1075 - exponent b)
+cut_mid b h l u =
     let k = shift (exponent b) in
     let s = 1075 - exponent b in
     let p : 1074 ≡ k + s = omega (arith, shift_is (exponent b)) in
-    let q : (fraction b + 2 ^ 52) / 2 ^ s < 2 ^ 32 = fits-32 (fraction b + 2 ^ 52) s (omega arith) (omega arith) in
+    let q : (fraction b + 2 ^ 52) / 2 ^ s < 2 ^ 32 = fits_32 (fraction b + 2 ^ 52) s (omega arith) (omega arith) in
     by_value b h (omega arith)
     ∙ ap (λ (n : ℕ). min (n * 2 ^ k / 2 ^ 1074) (2 ^ 32 - 1)) (digits-is (exponent b) (fraction b) (omega arith))
     ∙ ap (λ (n : ℕ). min n (2 ^ 32 - 1)) (ap (λ (n : ℕ). (fraction b + 2 ^ 52) * 2 ^ k / 2 ^ n) p ∙ mid (fraction b + 2 ^ 52) k s)

@@ -5,7 +5,7 @@ use lib.Ieee.{Float, nan, inf, fin, up, down, binary64, lt, fits, of_bits, to_un
 use lib.Ieee.Fits.{and_l, and_r, up_pos}
 use lib.Ieee.Back.{round_whole}
 use Rattle.float.specs.Leaf.{floor_of, at_least0, f0}
-use Rattle.float.proofs.Cut.{cut-val}
+use Rattle.float.proofs.Cut.{cut_val}
 
 -- ---- max
 
@@ -49,12 +49,12 @@ whole (inf s) t = refl
 whole (fin s m (pos e)) t = refl
 whole (fin true m (negsuc e)) t =
     let n = cond (eqb (m % 2 ^ suc e) 0) (m / 2 ^ suc e) (suc (m / 2 ^ suc e)) in
-    cut-val (round binary64 true n 1) true n 1 (omega arith) (round_whole binary64 true n (small (eqb (m % 2 ^ suc e) 0) (m / 2 ^ suc e) m (digits true m (negsuc e) t) (div-le_self m (2 ^ suc e))))
+    cut_val (round binary64 true n 1) true n 1 (omega arith) (round_whole binary64 true n (small (eqb (m % 2 ^ suc e) 0) (m / 2 ^ suc e) m (digits true m (negsuc e) t) (div-le_self m (2 ^ suc e))))
 whole (fin false m (negsuc e)) t =
     let n = m / 2 ^ suc e in
     let h = digits false m (negsuc e) t in
-    cut-val (round binary64 false n 1) false n 1 (omega arith) (round_whole binary64 false n (omega (arith, h, div-le_self m (2 ^ suc e))))
+    cut_val (round binary64 false n 1) false n 1 (omega arith) (round_whole binary64 false n (omega (arith, h, div-le_self m (2 ^ suc e))))
     ∙ rw (div-one, mul-one)
 
-pub same-cast : (x : Float) → T (fits binary64 x) → to_unsigned 32 (at_least0 (floor_of x)) ≡ to_unsigned 32 x
-same-cast x t = above (floor_of x) ∙ whole x t
+pub same_cast : (x : Float) → T (fits binary64 x) → to_unsigned 32 (at_least0 (floor_of x)) ≡ to_unsigned 32 x
+same_cast x t = above (floor_of x) ∙ whole x t

@@ -6,7 +6,7 @@ use lib.Ieee.Fits.{down_pos}
 use lib.Ieee.Exact.{HasValue}
 use lib.Ieee.Nearest.{div_same}
 use Rattle.float.specs.Leaf.{halves_up, held}
-use Rattle.float.proofs.Bits.{minus, exponent, fraction, digits, digits_lt, digits-is, shift, shift_is, bits-value, bits-inf, bits-minus}
+use Rattle.float.proofs.Bits.{minus, exponent, fraction, digits, digits_lt, digits-is, shift, shift_is, bits_value, bits_inf, bits-minus}
 
 -- ---- on numbers
 -- equal fractions round alike
@@ -50,11 +50,11 @@ mid q k s =
     ∙ ap (λ (x : ℕ). x / 2) (add-div_right (2 * a) (pow_pos (suc (k + s))) ∙ ap (λ (x : ℕ). x + 1) (div_same (2 * a) c q (2 ^ s) (pow_pos (suc (k + s))) (pow_pos s) e))
 
 -- ---- on values
-pub held-val : (x : Float) (s : Bool) (a c : ℕ) → 0 < c → HasValue x s a c → held x ≡ cond s 0 (min (halves_up a c) 16383)
+pub held_val : (x : Float) (s : Bool) (a c : ℕ) → 0 < c → HasValue x s a c → held x ≡ cond s 0 (min (halves_up a c) 16383)
 unfolding held
-held-val nan s a c C v = absurd v
-held-val (inf t) s a c C v = absurd v
-held-val (fin t m e) s a c C v =
+held_val nan s a c C v = absurd v
+held_val (inf t) s a c C v = absurd v
+held_val (fin t m e) s a c C v =
     ap (λ (b : Bool). cond b 0 (min (halves_up (m * up e) (down e)) 16383)) v.0
     ∙ ap (λ (n : ℕ). cond s 0 (min n 16383)) (halves_up-same (m * up e) (down e) a c (down_pos e) C v.1)
 
@@ -67,11 +67,11 @@ held-minus (fin true m e) t = refl
 held-minus (fin false m e) t = elim t [ ]
 
 -- ---- on patterns
-pub held-negative : (b : ℕ) → 2 ^ 63 ≤ b → held (of_bits binary64 b) ≡ 0
-held-negative b h = held-minus (of_bits binary64 b) (bits-minus b h)
+pub held_negative : (b : ℕ) → 2 ^ 63 ≤ b → held (of_bits binary64 b) ≡ 0
+held_negative b h = held-minus (of_bits binary64 b) (bits-minus b h)
 
 by_value : (b : ℕ) → b < 2 ^ 63 → exponent b < 2047 → held (of_bits binary64 b) ≡ min (halves_up (digits (exponent b) (fraction b) * 2 ^ shift (exponent b)) (2 ^ 1074)) 16383
-by_value b h g = held-val (of_bits binary64 b) false (digits (exponent b) (fraction b) * 2 ^ shift (exponent b)) (2 ^ 1074) (pow_pos 1074) (bits-value b h g)
+by_value b h g = held_val (of_bits binary64 b) false (digits (exponent b) (fraction b) * 2 ^ shift (exponent b)) (2 ^ 1074) (pow_pos 1074) (bits_value b h g)
 
 pub held_low : (b : ℕ) → b < 2 ^ 63 → exponent b < 1022 → held (of_bits binary64 b) ≡ 0
 held_low b h g =
@@ -86,10 +86,10 @@ held_high b h g n = go (ltb (exponent b) 2047) (ltb→lt (exponent b) 2047) (nlt
     go true p q =
         by_value b h (p tt)
         ∙ min-eq_right (high (digits (exponent b) (fraction b)) (shift (exponent b)) 1074 (omega (arith, digits-is (exponent b) (fraction b) (omega arith))) (omega (arith, shift_is (exponent b))))
-    go false p q = ap held (bits-inf b h (q tt) n)
+    go false p q = ap held (bits_inf b h (q tt) n)
 
-pub held-mid : (b : ℕ) → b < 2 ^ 63 → 1022 ≤ exponent b → exponent b ≤ 1036 → held (of_bits binary64 b) ≡ min (((fraction b + 2 ^ 52) / 2 ^ (1074 - exponent b) + 1) / 2) 16383
-held-mid b h l u =
+pub held_mid : (b : ℕ) → b < 2 ^ 63 → 1022 ≤ exponent b → exponent b ≤ 1036 → held (of_bits binary64 b) ≡ min (((fraction b + 2 ^ 52) / 2 ^ (1074 - exponent b) + 1) / 2) 16383
+held_mid b h l u =
     let k = shift (exponent b) in
     let s = 1074 - exponent b in
     let p : 1074 ≡ suc (k + s) = omega (arith, shift_is (exponent b)) in

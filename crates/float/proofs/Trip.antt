@@ -11,7 +11,7 @@ use lib.Ieee.Fits.{nearest-le, down_pos}
 use lib.Ieee.Scale.{grid, overflow, round_val, round_same, normal_of_fraction}
 use lib.Ieee.Back.{round_whole}
 use Rattle.float.specs.Leaf.{fader_max, held, halves_up, position_of, value_of}
-use Rattle.float.proofs.Held.{held-val}
+use Rattle.float.proofs.Held.{held_val}
 
 -- ---- the nearest whole number is within a half
 abbrev Near : ℕ → ℕ → ℕ → Type 0
@@ -51,14 +51,14 @@ P = 1048576
 abbrev Close : ℕ → ℕ → Type 0
 Close x y = (x * P ≤ y * (P + 1)) × (y * P ≤ x * P + y)
 
-digits-in-use : (z p : ℕ) → 53 ≤ z → 52 + (z - 53) < z
-digits-in-use z p h = omega arith
+digits_in_use : (z p : ℕ) → 53 ≤ z → 52 + (z - 53) < z
+digits_in_use z p h = omega arith
 
 within : (x y u : ℕ) → 2 * x ≤ 2 * y + u → 2 * y ≤ 2 * x + u → u * 4503599627370496 ≤ y → Close x y
 within x y u a b h = omega arith
 
-grid-close : (a c : ℕ) → 0 < c → 53 ≤ size (a * 2 ^ 1074 / c) → Close (grid binary64 a c * c) (a * 2 ^ 1074)
-grid-close a c C N =
+grid_close : (a c : ℕ) → 0 < c → 53 ≤ size (a * 2 ^ 1074 / c) → Close (grid binary64 a c * c) (a * 2 ^ 1074)
+grid_close a c C N =
     let n = a * 2 ^ 1074 in
     let w = n / c in
     let d = size w - 53 in
@@ -66,7 +66,7 @@ grid-close a c C N =
     let k = closest n u in
     let U : 0 < u = mul-pos C (pow_pos d) in
     let e : k * 2 ^ d * c ≡ k * u = mul_assoc k (2 ^ d) c ∙ ap (λ (x : ℕ). k * x) (mul_comm (2 ^ d) c) in
-    let r : 2 ^ 52 * 2 ^ d ≤ w = le_trans (le_of_eq (sym (pow-add 2 52 d))) (size_reaches w (52 + d) (digits-in-use (size w) 0 N)) in
+    let r : 2 ^ 52 * 2 ^ d ≤ w = le_trans (le_of_eq (sym (pow-add 2 52 d))) (size_reaches w (52 + d) (digits_in_use (size w) 0 N)) in
     let s : 2 ^ 52 * 2 ^ d * c ≤ n = (le-div_iff_mul-le C).0 r in
     let t : u * 2 ^ 52 ≤ n = le_trans (le_of_eq (mul_comm u (2 ^ 52) ∙ ap (λ (x : ℕ). 2 ^ 52 * x) (mul_comm c (2 ^ d)) ∙ sym (mul_assoc (2 ^ 52) (2 ^ d) c))) s in
     let q = near n u U in
@@ -110,35 +110,35 @@ lands h g a L k p e u c d =
 room : (g a L : ℕ) → a ≤ 16383 * L → Close (g * 16383) a → g ≤ 2 * L
 room g a L u c = omega arith
 
-room-2 : (h g a L : ℕ) → a ≤ 16383 * L → Close g a → Close h g → h ≤ 16384 * L
-room-2 h g a L u c d = omega arith
+room_2 : (h g a L : ℕ) → a ≤ 16383 * L → Close g a → Close h g → h ≤ 16384 * L
+room_2 h g a L u c d = omega arith
 
 apart : (g a L : ℕ) → L ≤ a → 1152921504606846976 ≤ L → Close g a → 4503599627370496 ≤ g
 apart g a L l b c = omega arith
 
 -- ---- all of it
-fader_max-back : (k : ℕ) → 0 < k → k ≤ 16383 → held (mul binary64 (round binary64 false k 16383) fader_max) ≡ k
-fader_max-back k K U =
+fader_max_back : (k : ℕ) → 0 < k → k ≤ 16383 → held (mul binary64 (round binary64 false k 16383) fader_max) ≡ k
+fader_max_back k K U =
     let L = 2 ^ 1074 in
-    let L-pos : 0 < L = pow_pos 1074 in
+    let L_pos : 0 < L = pow_pos 1074 in
     let g = grid binary64 k 16383 in
     let le : k * L ≤ 16383 * L = mul-le-mul_right L U in
     let ge : 1 * L ≤ k * L = mul-le-mul_right L K in
-    let G : Close (g * 16383) (k * L) = grid-close k 16383 (zero-lt-suc 16382) (normal_of_fraction binary64 k 16383 (zero-lt-suc 16382) (le_trans (lit≤ tt) ge)) in
-    let g-lt : g < overflow binary64 = lt_of_le_of_lt (room g (k * L) L le G) (lit< tt) in
-    let v : HasValue (round binary64 false k 16383) false g L = round_val binary64 k 16383 g-lt in
+    let G : Close (g * 16383) (k * L) = grid_close k 16383 (zero-lt-suc 16382) (normal_of_fraction binary64 k 16383 (zero-lt-suc 16382) (le_trans (lit≤ tt) ge)) in
+    let g_lt : g < overflow binary64 = lt_of_le_of_lt (room g (k * L) L le G) (lit< tt) in
+    let v : HasValue (round binary64 false k 16383) false g L = round_val binary64 k 16383 g_lt in
     let h = grid binary64 (g * 16383) L in
     let N : 2 ^ 52 * L ≤ g * 16383 * L = mul-le-mul_right L (apart (g * 16383) (k * L) L (le_trans (le_of_eq (sym (one-mul L))) ge) (lit≤ tt) G) in
-    let H : Close h (g * 16383) = cancel h (g * 16383) L L-pos (grid-close (g * 16383) L L-pos (normal_of_fraction binary64 (g * 16383) L L-pos N)) in
-    let h-lt : h < overflow binary64 = lt_of_le_of_lt (room-2 h (g * 16383) (k * L) L le G H) (lit< tt) in
-    ap held (mul_at (round binary64 false k 16383) g L L-pos v)
-    ∙ held-val (round binary64 false (g * 16383) L) false h L L-pos (round_val binary64 (g * 16383) L h-lt)
-    ∙ ap (λ (n : ℕ). min n 16383) (lands h (g * 16383) (k * L) L k L-pos refl le G H)
+    let H : Close h (g * 16383) = cancel h (g * 16383) L L_pos (grid_close (g * 16383) L L_pos (normal_of_fraction binary64 (g * 16383) L L_pos N)) in
+    let h_lt : h < overflow binary64 = lt_of_le_of_lt (room_2 h (g * 16383) (k * L) L le G H) (lit< tt) in
+    ap held (mul_at (round binary64 false k 16383) g L L_pos v)
+    ∙ held_val (round binary64 false (g * 16383) L) false h L L_pos (round_val binary64 (g * 16383) L h_lt)
+    ∙ ap (λ (n : ℕ). min n 16383) (lands h (g * 16383) (k * L) L k L_pos refl le G H)
     ∙ min-eq_left U
 
-as-round : (k : ℕ) → k ≤ 2 ^ 53 → value_of k ≡ round binary64 false k 16383
+as_round : (k : ℕ) → k ≤ 2 ^ 53 → value_of k ≡ round binary64 false k 16383
 unfolding of_int
-as-round k h = div-at (round binary64 false k 1) k (round_whole binary64 false k h)
+as_round k h = div-at (round binary64 false k 1) k (round_whole binary64 false k h)
 
 at_zero : position_of (value_of 0) ≡ 0
 unfolding mul div of_int of_bits held
@@ -146,4 +146,4 @@ at_zero = refl
 
 pub comes_back : (k : ℕ) → k < 16384 → position_of (value_of k) ≡ k
 comes_back zero h = at_zero
-comes_back (suc j) h = ap position_of (as-round (suc j) (omega arith)) ∙ fader_max-back (suc j) (zero-lt-suc j) (omega arith)
+comes_back (suc j) h = ap position_of (as_round (suc j) (omega arith)) ∙ fader_max_back (suc j) (zero-lt-suc j) (omega arith)

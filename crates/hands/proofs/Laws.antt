@@ -25,7 +25,7 @@ use Rattle.lookup.specs.declared.Found.TheVariants.{To}
 use Rattle.drivers.specs.Talk.{Talk, Got, got, next}
 use Rattle.drivers.specs.declared.Level.{Level}
 use Rattle.session.specs.Session.{no_move, Turn, turn_at, turns_up_to, wires_to, is_dest}
-use Rattle.session.specs.SessionLaws.{sums_in, sums-long, same_sum}
+use Rattle.session.specs.SessionLaws.{sums_in, sums_long, same_sum}
 use Rattle.session.specs.declared.Move.{Move}
 use Rattle.definition.specs.Rig.{Rig, destination}
 use Rattle.definition.specs.Levels.{read, write}
@@ -41,8 +41,8 @@ asked true q = refl
 asked false q = absurd (true≢false (sym q))
 
 module _ (e : Destination) (last : Level) (value : Float) (t : Talk) where
-  pub taken-unasked : e.takeover ≡ false → Fades (To e) last value t Taken t
-  taken-unasked q k ch d i j = rw q
+  pub taken_unasked : e.takeover ≡ false → Fades (To e) last value t Taken t
+  taken_unasked q k ch d i j = rw q
 
   module _ (c : Level) (u : Talk) (b : Bool) (q : e.takeover ≡ true) (r : got c u ≡ read e t) (h : b ≡ is_held c last value) where
     pub held : b ≡ true → Fades (To e) last value t Held u
@@ -64,9 +64,9 @@ not-zero (pos (suc n)) h = refl
 not-zero (negsuc n) h = refl
 
 -- what a call shows of the sum z that it was handed, said of the sum itself
-pub nudged-there : (e : Destination) (sum z : ℤ) (c v : Float) (g : Got Bool) (t : Talk) → z ≡ sum → v ≡ nudge c z → g ≡ write e v t →
+pub nudged_there : (e : Destination) (sum z : ℤ) (c v : Float) (g : Got Bool) (t : Talk) → z ≡ sum → v ≡ nudge c z → g ≡ write e v t →
     g.talk ≡ (write e (nudge c sum) t).talk
-nudged-there e sum z c v g t a b h = rw (← a, ← b, ← h)
+nudged_there e sum z c v g t a b h = rw (← a, ← b, ← h)
 
 pub nudged-from : (l : Level) (e : Destination) (sum z : ℤ) (t v : Talk) → z ≡ sum → v ≡ nudge_from l e z t → v ≡ nudge_from l e sum t
 nudged-from l e sum z t v a b = rw (← a) b
@@ -103,9 +103,9 @@ nudges-end [] e t = refl
 nudges-end (x ∷ l) e t = nudges-end l e (apply_nudge x t)
 
 module _ (p ks : List ℕ) (ns : List ℤ) (t : Talk) where
-  pub no-nudge : t ≡ nudges (turns_up_to p 0 ks ns) t
+  pub no_nudge : t ≡ nudges (turns_up_to p 0 ks ns) t
   unfolding nudges beside
-  no-nudge = refl
+  no_nudge = refl
 
   one-turn : (i : ℕ) → length ks ≡ length ns → i < length ks → turns_up_to p (i + 1) ks ns ≡ turns_up_to p i ks ns ++ (turn_at p (get_or ks i 0) (get_or ns i (pos 0)) ∷ [])
   one-turn i e h =
@@ -154,27 +154,27 @@ module _ (p ks : List ℕ) (ns : List ℤ) (n i : ℕ) (d : Destination) (delta 
   abbrev verdict : ℕ
   verdict = declined_by (find (is_dest d) (turns_up_to p n ks ns)) delta (turns_up_to p n ks ns)
 
-  sum-there : i < n → find (is_dest d) (turns_up_to p n ks ns) ≡ some (turn_at p (get_or ks i 0) (get_or ns i (pos 0)))
-  sum-there h =
-      rw (side.beside-take (turn_at p) n ks ns, laws.found (is_dest d) (turn_at p 0 (pos 0)) sums n i same (omega (arith, sums-long p ks ns lk ln)) h)
+  sum_there : i < n → find (is_dest d) (turns_up_to p n ks ns) ≡ some (turn_at p (get_or ks i 0) (get_or ns i (pos 0)))
+  sum_there h =
+      rw (side.beside-take (turn_at p) n ks ns, laws.found (is_dest d) (turn_at p 0 (pos 0)) sums n i same (omega (arith, sums_long p ks ns lk ln)) h)
       (ap some (side.beside-get_or (turn_at p) 0 (pos 0) ks ns i (omega arith)))
 
-  sum-missing : n ≤ i → find (is_dest d) (turns_up_to p n ks ns) ≡ none
-  sum-missing h =
-      rw (side.beside-take (turn_at p) n ks ns) (laws.not_found (is_dest d) (turn_at p 0 (pos 0)) sums n i same (omega (arith, sums-long p ks ns lk ln)) h)
+  sum_missing : n ≤ i → find (is_dest d) (turns_up_to p n ks ns) ≡ none
+  sum_missing h =
+      rw (side.beside-take (turn_at p) n ks ns) (laws.not_found (is_dest d) (turn_at p 0 (pos 0)) sums n i same (omega (arith, sums_long p ks ns lk ln)) h)
 
-  how-many : length (turns_up_to p n ks ns) ≡ n
-  how-many = rw (side.beside-take (turn_at p) n ks ns) (length-take-le n sums (omega (arith, sums-long p ks ns lk ln)))
+  how_many : length (turns_up_to p n ks ns) ≡ n
+  how_many = rw (side.beside-take (turn_at p) n ks ns) (length-take-le n sums (omega (arith, sums_long p ks ns lk ln)))
 
   module _ (b : Bool) (h : i < n) (q : b ≡ not (in_range (get_or ns i (pos 0) +ℤ delta))) where
     pub out_of_range : b ≡ true → 12 ≡ verdict
-    out_of_range y = rw (sum-there h, not-true (in_range (get_or ns i (pos 0) +ℤ delta)) (sym q ∙ y))
+    out_of_range y = rw (sum_there h, not-true (in_range (get_or ns i (pos 0) +ℤ delta)) (sym q ∙ y))
 
-    pub within-range : b ≡ false → 0 ≡ verdict
-    within-range y = rw (sum-there h, not-false (in_range (get_or ns i (pos 0) +ℤ delta)) (sym q ∙ y))
+    pub within_range : b ≡ false → 0 ≡ verdict
+    within_range y = rw (sum_there h, not-false (in_range (get_or ns i (pos 0) +ℤ delta)) (sym q ∙ y))
 
   pub no_place : n ≤ i → 136 ≤ n → 13 ≡ verdict
-  no_place h l = rw (sum-missing h, how-many, le-leb 136 n l)
+  no_place h l = rw (sum_missing h, how_many, le-leb 136 n l)
 
-  pub a-place : n ≤ i → n < 136 → 0 ≡ verdict
-  a-place h l = rw (sum-missing h, how-many, lt-leb 136 n l)
+  pub a_place : n ≤ i → n < 136 → 0 ≡ verdict
+  a_place h l = rw (sum_missing h, how_many, lt-leb 136 n l)

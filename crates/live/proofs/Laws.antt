@@ -9,7 +9,7 @@ use native.Mathlib.Omega.{arith}
 use lib.Dec.{eqb}
 use lib.ListN.{take}
 use borrow.Author.Tests.{eq-eqb}
-use Rattle.base.specs.RangeLaws.{or-right-no}
+use Rattle.base.specs.RangeLaws.{or_right_no}
 use Rattle.profile.specs.Profile.{verdict}
 use Rattle.lookup.specs.Lookup.{device_of}
 use Rattle.lookup.specs.Known.{known-device}
@@ -32,17 +32,17 @@ use Rattle.live.specs.declared.Refreshed.{Refreshed}
 
 -- a list that was handed over is known
 -- the first list is another one; a later one is compared
-pub first-list : (s : Strips) (l : List Strip) → not s.known ≡ true → false ≡ same_as (seen_strips s) l
+pub first_list : (s : Strips) (l : List Strip) → not s.known ≡ true → false ≡ same_as (seen_strips s) l
 unfolding seen_strips
-first-list s l e = go s.known e
+first_list s l e = go s.known e
   where
     go : (b : Bool) → not b ≡ true → false ≡ same_as (strips_if b (take s.count s.list)) l
     go true q = let z : ◌≡◌ {A = Bool} false true = q in cc
     go false q = refl
 
-pub later-list : (s : Strips) (l : List Strip) (r : Bool) → not s.known ≡ false → r ≡ same_strips (strips_or (seen_strips s)) l → r ≡ same_as (seen_strips s) l
+pub later_list : (s : Strips) (l : List Strip) (r : Bool) → not s.known ≡ false → r ≡ same_strips (strips_or (seen_strips s)) l → r ≡ same_as (seen_strips s) l
 unfolding seen_strips
-later-list s l r e h = go s.known e h
+later_list s l r e h = go s.known e h
   where
     go : (b : Bool) → not b ≡ false → r ≡ same_strips (strips_or (strips_if b (take s.count s.list))) l → r ≡ same_as (strips_if b (take s.count s.list)) l
     go true q p = p
@@ -51,13 +51,13 @@ later-list s l r e h = go s.known e h
 -- ── the bank's driver ──
 
 -- a bank that has a driver has one of 0 to 15
-pub low-device : (p : List ℕ) → verdict p ≡ 0 → (bank which name : ℕ) → name ≡ device_of p bank → (eqb which 65535 || eqb name 65535) ≡ false → name ≤ 15
-low-device p ok bank which name d e = go (known-device p ok bank)
+pub low_device : (p : List ℕ) → verdict p ≡ 0 → (bank which name : ℕ) → name ≡ device_of p bank → (eqb which 65535 || eqb name 65535) ≡ false → name ≤ 15
+low_device p ok bank which name d e = go (known-device p ok bank)
   where
     go : (device_of p bank ≤ 15) ⊎ (device_of p bank ≡ 65535) → name ≤ 15
     go (inl h) = rw d h
     go (inr h) =
-        let q : ◌≡◌ {A = Bool} true false = sym (eq-eqb name 65535 (d ∙ h)) ∙ or-right-no (eqb which 65535) (eqb name 65535) e in
+        let q : ◌≡◌ {A = Bool} true false = sym (eq-eqb name 65535 (d ∙ h)) ∙ or_right_no (eqb which 65535) (eqb name 65535) e in
         let z : ◌≡◌ {A = ℕ} 0 1 = cc in
         absurd (omega arith)
 
@@ -65,9 +65,9 @@ low-device p ok bank which name d e = go (known-device p ok bank)
 
 module _ (known : Option (List Strip)) (r : Rig) (x : Lamps) (s : List ℕ) (t : Talk) (which driver : ℕ) (a : which ≡ r.here.part.live)
     (d : driver ≡ r.here.part.device) where
-  pub asks-nobody : (eqb which 65535 || eqb driver 65535) ≡ true → got (refreshed r.here.strips false) t ≡ refresh_live known r x s t
+  pub asks_nobody : (eqb which 65535 || eqb driver 65535) ≡ true → got (refreshed r.here.strips false) t ≡ refresh_live known r x s t
   unfolding refresh_live
-  asks-nobody e = rw (← a, ← d, e)
+  asks_nobody e = rw (← a, ← d, e)
 
   -- the driver handed over l, which is kept as o, and the line after it is u
   module _ (ok : Bool) (l : List LiveFader) (u : Talk) (o : Option (List Strip)) (same : Bool) (e : (eqb which 65535 || eqb driver 65535) ≡ false)

@@ -25,28 +25,28 @@ abbrev either : {A : Type 0} → Option A → Option A → Option A
 either (some x) y = some x
 either none y = y
 
-from-else : {A : Type 0} (g : ℕ → A) (a b : Place) → from g (or_else a b) ≡ either (from g a) (from g b)
-from-else g (At k) b = refl
-from-else g Nothing b = refl
+from_else : {A : Type 0} (g : ℕ → A) (a b : Place) → from g (or_else a b) ≡ either (from g a) (from g b)
+from_else g (At k) b = refl
+from_else g Nothing b = refl
 
 module _ {A : Type 0} (p : ℕ → Bool) (g : ℕ → A) where
-  pub gather-yes : (i : ℕ) → p i ≡ true → gather (i + 1) p g ≡ gather i p g ++ (g i ∷ [])
+  pub gather_yes : (i : ℕ) → p i ≡ true → gather (i + 1) p g ≡ gather i p g ++ (g i ∷ [])
   unfolding gather
-  gather-yes i e = rw (add-one, e)
+  gather_yes i e = rw (add-one, e)
 
-  pub gather-no : (i : ℕ) → p i ≡ false → gather (i + 1) p g ≡ gather i p g
+  pub gather_no : (i : ℕ) → p i ≡ false → gather (i + 1) p g ≡ gather i p g
   unfolding gather
-  gather-no i e = rw (add-one, e, append-nil)
+  gather_no i e = rw (add-one, e, append-nil)
 
   -- where all below n of which p holds are below m, the list made up to m is the whole
-  pub gather-short : (m n : ℕ) → m ≤ n → ((k : ℕ) → k < n → p k ≡ true → k < m) → gather m p g ≡ gather n p g
+  pub gather_short : (m n : ℕ) → m ≤ n → ((k : ℕ) → k < n → p k ≡ true → k < m) → gather m p g ≡ gather n p g
   unfolding gather
-  gather-short m zero l h = rw (le_antisymm l (omega arith))
-  gather-short m (suc n) l h =
+  gather_short m zero l h = rw (le_antisymm l (omega arith))
+  gather_short m (suc n) l h =
       ⊎_elim
       (λ e. rw e)
       (λ b.
-      gather-short m n (le_of_suc-le-suc b) (λ k c. h k (omega arith))
+      gather_short m n (le_of_suc-le-suc b) (λ k c. h k (omega arith))
       ∙ rw (not_behind (p n) m n (h n (omega arith)) (omega arith)) (sym (append-nil (gather n p g))))
       (eq-or-lt_of_le l)
 
@@ -103,5 +103,5 @@ module _ {A : Type 0} (p : ℕ → Bool) (g : ℕ → A) where
     unfolding gather first
     gather-find zero = sym no_one
     gather-find (suc n) =
-        from-else g (first n (λ k. p k && f (g k))) (cond (p n && f (g n)) (At n) Nothing)
+        from_else g (first n (λ k. p k && f (g k))) (cond (p n && f (g n)) (At n) Nothing)
         ∙ rw (gather-find n, ← last_one n (p n) (f (g n)) refl) (sym (find-append (gather n p g) (pick (p n) (g n ∷ []) [])))

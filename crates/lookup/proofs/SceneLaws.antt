@@ -20,9 +20,9 @@ module _ (s : List ℕ) (b : ℕ) where
 
   module _ (m k : ℕ) (w : Walked (of_part s 4 b) m k) where
     -- the record at which the loop stands is scene m
-    scene-here : k < reach s 4 → of_part s 4 b k ≡ true → half_at s k 4 ≡ get_or (scenes_of s b) m 65535
+    scene_here : k < reach s 4 → of_part s 4 b k ≡ true → half_at s k 4 ≡ get_or (scenes_of s b) m 65535
     unfolding scenes_of
-    scene-here l e = rw w.is (gather-at (of_part s 4 b) (λ j. half_at s j 4) 65535 (reach s 4) k l e)
+    scene_here l e = rw w.is (gather-at (of_part s 4 b) (λ j. half_at s j 4) 65535 (reach s 4) k l e)
 
     scene-lt : k < reach s 4 → of_part s 4 b k ≡ true → m < length (scenes_of s b)
     scene-lt l e = rw (scenes-length, w.is) (count-lt (of_part s 4 b) k (reach s 4) l e)
@@ -32,7 +32,7 @@ module _ (s : List ℕ) (b : ℕ) where
 
     -- `scene_name`: the n-th is here, or there is none
     pub name-hit : (n x : ℕ) → k < reach s 4 → of_part s 4 b k ≡ true → m ≡ n → x ≡ half_at s k 4 → x ≡ get_or (scenes_of s b) n 65535
-    name-hit n x l e q h = h ∙ scene-here l e ∙ rw q
+    name-hit n x l e q h = h ∙ scene_here l e ∙ rw q
 
     pub name_done : (n : ℕ) → reach s 4 ≡ k → m ≤ n → 65535 ≡ get_or (scenes_of s b) n 65535
     unfolding scenes_of
@@ -44,13 +44,13 @@ module _ (s : List ℕ) (b : ℕ) where
       unfolding position
       position-hit x l e h q =
           first-hit (λ i. eqb (get_or (scenes_of s b) i 65535) name) (length (scenes_of s b)) m none
-          (eq-eqb (get_or (scenes_of s b) m 65535) name (sym (scene-here l e) ∙ sym h ∙ q)) (scene-lt l e)
+          (eq-eqb (get_or (scenes_of s b) m 65535) name (sym (scene_here l e) ∙ sym h ∙ q)) (scene-lt l e)
 
       pub position-more : (x : ℕ) → k < reach s 4 → of_part s 4 b k ≡ true → x ≡ half_at s k 4 → (x ≡ name → ⊥) →
           first (m + 1) (λ i. eqb (get_or (scenes_of s b) i 65535) name) ≡ Nothing
       position-more x l e h q =
           first_more (λ i. eqb (get_or (scenes_of s b) i 65535) name) m none
-          (ne_eqb (get_or (scenes_of s b) m 65535) name (λ r. q (h ∙ scene-here l e ∙ r)))
+          (ne_eqb (get_or (scenes_of s b) m 65535) name (λ r. q (h ∙ scene_here l e ∙ r)))
 
       pub position-done : reach s 4 ≡ k → Nothing ≡ position name (scenes_of s b)
       unfolding position

@@ -4,7 +4,7 @@ use Rattle.std.proofs.Math.Path.{sym, ap}
 use Rattle.std.proofs.Common.{◌∙◌, ⊎_elim, eq-or-lt_of_le, arith}
 use Rattle.std.proofs.Math.Dec.{leb}
 use borrow.Author.Tests.{le-leb, lt-leb}
-use Rattle.base.specs.RangeLaws.{all-each, all-stop}
+use Rattle.base.specs.RangeLaws.{all_each, all_stop}
 use Rattle.base.specs.FirstLaws.{first-hit, first-none}
 use Rattle.lookup.specs.FirstMore.{first-nothing}
 use Rattle.lookup.specs.Lookup.{times, top_at, value_at, most_common}
@@ -22,8 +22,8 @@ pub record Best (l : List ℕ) (i best often : ℕ) : Type 0 where
   pub most : (j : ℕ) → j < i → times_at l j ≤ often
   pub earlier : (j : ℕ) → j < p → times_at l j < often
 
-pub best-start : (l : List ℕ) (x often : ℕ) → x ≡ get_or l 0 0 → often ≡ times x l → Best l 1 x often
-best-start l x often e h =
+pub best_start : (l : List ℕ) (x often : ℕ) → x ≡ get_or l 0 0 → often ≡ times x l → Best l 1 x often
+best_start l x often e h =
     let q : often ≡ times_at l 0 = h ∙ rw e in
     record {
       p = 0;
@@ -38,8 +38,8 @@ module _ (l : List ℕ) (i best often : ℕ) (b : Best l i best often) (x m : �
   at_i : m ≡ times_at l i
   at_i = h ∙ rw e
 
-  pub best-keep : m ≤ often → Best l (i + 1) best often
-  best-keep q =
+  pub best_keep : m ≤ often → Best l (i + 1) best often
+  best_keep q =
       record {
         p = b.p;
         before = omega (arith, b.before);
@@ -49,8 +49,8 @@ module _ (l : List ℕ) (i best often : ℕ) (b : Best l i best often) (x m : �
         earlier = b.earlier;
       }
 
-  pub best-new : often < m → Best l (i + 1) x m
-  best-new q =
+  pub best_new : often < m → Best l (i + 1) x m
+  best_new q =
       record {
         p = i;
         before = omega arith;
@@ -63,18 +63,18 @@ module _ (l : List ℕ) (i best often : ℕ) (b : Best l i best often) (x m : �
 module _ (l : List ℕ) (i best often : ℕ) (b : Best l i best often) (end : i ≡ length l) where
   top : top_at l b.p ≡ true
   unfolding top_at
-  top = all-each (λ j. leb (times_at l j) (times_at l b.p)) (length l) (λ j n. le-leb (times_at l j) (times_at l b.p) (omega (arith, b.most j (omega arith), b.counted)))
+  top = all_each (λ j. leb (times_at l j) (times_at l b.p)) (length l) (λ j n. le-leb (times_at l j) (times_at l b.p) (omega (arith, b.most j (omega arith), b.counted)))
 
   not_top : (j : ℕ) → j < b.p → top_at l j ≡ false
   unfolding top_at
   not_top j n =
-      sym (all-stop (λ k. leb (times_at l k) (times_at l j)) (length l) b.p (omega (arith, b.before))
+      sym (all_stop (λ k. leb (times_at l k) (times_at l j)) (length l) b.p (omega (arith, b.before))
       (lt-leb (times_at l b.p) (times_at l j) (omega (arith, b.earlier j n, b.counted))))
 
-  pub best-done : best ≡ most_common l
+  pub best_done : best ≡ most_common l
   unfolding most_common
-  best-done = b.is ∙ ap (value_at l) (first-hit (top_at l) (length l) b.p (first-nothing (top_at l) b.p not_top) top (omega (arith, b.before)))
+  best_done = b.is ∙ ap (value_at l) (first-hit (top_at l) (length l) b.p (first-nothing (top_at l) b.p not_top) top (omega (arith, b.before)))
 
-pub none-common : (l : List ℕ) → length l ≡ 0 → 65535 ≡ most_common l
+pub none_common : (l : List ℕ) → length l ≡ 0 → 65535 ≡ most_common l
 unfolding most_common
-none-common l e = rw (e, first-none (top_at l))
+none_common l e = rw (e, first-none (top_at l))

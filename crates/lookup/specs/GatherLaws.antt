@@ -31,12 +31,12 @@ module _ (p : ℕ → Bool) where
   pub walked_none : Walked p 0 0
   walked_none = record { le = omega arith; is = sym (count_none p) }
 
-  pub walked-no : (m k : ℕ) → Walked p m k → p k ≡ false → Walked p m (k + 1)
-  walked-no m k w e = record { le = omega arith; is = rw (count-more, e, add-zero) w.is }
+  pub walked_no : (m k : ℕ) → Walked p m k → p k ≡ false → Walked p m (k + 1)
+  walked_no m k w e = record { le = omega arith; is = rw (count-more, e, add-zero) w.is }
 
   -- whichever it is
   pub walked_on : (m k b : ℕ) → Walked p m k → b ≡ bit (p k) → Walked p (m + b) (k + 1)
   walked_on m k b w e = record { le = omega (arith, bit_le (p k)); is = cc (w.is, count-more p k) }
 
-  pub walked-yes : (m k : ℕ) → Walked p m k → p k ≡ true → Walked p (m + 1) (k + 1)
-  walked-yes m k w e = record { le = omega arith; is = rw (count-more, e, ← w.is) }
+  pub walked_yes : (m k : ℕ) → Walked p m k → p k ≡ true → Walked p (m + 1) (k + 1)
+  walked_yes m k w e = record { le = omega arith; is = rw (count-more, e, ← w.is) }

@@ -8,8 +8,8 @@ use Rattle.base.specs.FirstLaws.{until-behind}
 use Rattle.base.specs.declared.Place.{Place}
 use Rattle.base.specs.declared.Place.TheVariants.{At, Nothing}
 use Rattle.profile.specs.Profile.{records, byte_at, verdict}
-use Rattle.profile.specs.Fields.{bank-at}
-use Rattle.profile.specs.Accepted.{accepted, kinds-rise}
+use Rattle.profile.specs.Fields.{bank_at_lem}
+use Rattle.profile.specs.Accepted.{accepted, kinds_rise}
 use Rattle.lookup.specs.Lookup.{is_past, reach, entry, half_of, device_of, is_entry}
 use Rattle.lookup.specs.FirstMore.{first_short}
 use Rattle.lookup.specs.LookupLaws.{reach-le, entry-is}
@@ -21,7 +21,7 @@ module _ (s : List ℕ) (ok : verdict s ≡ 0) where
   pub in_reach : (kind k : ℕ) → k < records s → byte_at s k 0 ≡ kind → k < reach s kind
   unfolding reach
   in_reach kind k l e =
-      until-behind (is_past s kind) (records s) k l (λ j h. le-ltb kind (byte_at s j 0) (omega (arith, e, kinds-rise s ok j k h l)))
+      until-behind (is_past s kind) (records s) k l (λ j h. le-ltb kind (byte_at s j 0) (omega (arith, e, kinds_rise s ok j k h l)))
 
   -- so what is found is the first such record of the whole file
   pub entry_whole : (kind part number : ℕ) → entry s kind part number ≡ first (records s) (is_entry s kind part number)
@@ -34,9 +34,9 @@ module _ (s : List ℕ) (ok : verdict s ≡ 0) where
 
 module _ (s : List ℕ) (ok : verdict s ≡ 0) where
   -- a bank has a driver of 0 to 15 or none
-  device-found : (b : ℕ) (p : Place) → entry s 1 b 0 ≡ p → (half_of s 6 65535 p ≤ 15) ⊎ (half_of s 6 65535 p ≡ 65535)
-  device-found b (At k) q = let w = entry-is s 1 b 0 k q in (bank-at s (accepted s ok).fields k w.in_file w.kind_is).driver
-  device-found b Nothing q = inr refl
+  device_found : (b : ℕ) (p : Place) → entry s 1 b 0 ≡ p → (half_of s 6 65535 p ≤ 15) ⊎ (half_of s 6 65535 p ≡ 65535)
+  device_found b (At k) q = let w = entry-is s 1 b 0 k q in (bank_at_lem s (accepted s ok).fields k w.in_file w.kind_is).driver
+  device_found b Nothing q = inr refl
 
   pub known-device : (b : ℕ) → (device_of s b ≤ 15) ⊎ (device_of s b ≡ 65535)
-  known-device b = device-found b (entry s 1 b 0) refl
+  known-device b = device_found b (entry s 1 b 0) refl

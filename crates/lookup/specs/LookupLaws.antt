@@ -3,7 +3,7 @@ use Rattle.std.specs.Prelude.{ℕ, ◌≤◌, ◌<◌, ◌≡◌, refl, true, fa
 use Rattle.std.proofs.Common.{sym, ◌∙◌, lt_of_lt_of_le, eqb-true, eq-eqb}
 use Rattle.base.specs.RangeLaws.{every-at}
 use Rattle.base.specs.First.{first, or_else}
-use Rattle.base.specs.FirstLaws.{first-at, first-hit, until-le, until-here, until-done, until-on}
+use Rattle.base.specs.FirstLaws.{first-at, first-hit, until-le, until_here, until-done, until_on}
 use Rattle.base.specs.declared.Place.{Place}
 use Rattle.base.specs.declared.Place.TheVariants.{At, Nothing}
 use Rattle.profile.specs.Profile.{records, byte_at, is_kind}
@@ -23,15 +23,15 @@ reach-le s kind = until-le (is_past s kind) (records s)
 module _ (s : List ℕ) (kind k : ℕ) (none : first k (is_past s kind) ≡ Nothing) where
   pub reach_here : is_past s kind k ≡ true → k < records s → reach s kind ≡ k
   unfolding reach
-  reach_here = until-here (is_past s kind) (records s) k none
+  reach_here = until_here (is_past s kind) (records s) k none
 
   pub reach-end : k ≤ records s → records s ≤ k → reach s kind ≡ k
   unfolding reach
   reach-end a b = until-done (is_past s kind) k (records s) a b none
 
-  pub reach-on : is_past s kind k ≡ false → k < records s → k < reach s kind
+  pub reach_on : is_past s kind k ≡ false → k < records s → k < reach s kind
   unfolding reach
-  reach-on q l = until-on (is_past s kind) (records s) k l none q
+  reach_on q l = until_on (is_past s kind) (records s) k l none q
 
 -- `find`: the record at which it stands is the one, or there is none
 module _ (s : List ℕ) (kind part number k : ℕ) (none : first k (is_entry s kind part number) ≡ Nothing) where
@@ -68,28 +68,28 @@ pub entry_in : (s : List ℕ) (kind part number k : ℕ) (f : Place) → f ≡ e
 entry_in s kind part number k f e q = (entry-is s kind part number k (sym e ∙ q)).in_file
 
 -- "Globals precede the bank": r is what the globals have, h what the bank has
-pub runs-there : (r f g : Bound) (c : Command) → r ≡ f → r ≡ bound.Run c → bound.Run c ≡ before f g
-runs-there r f g c e q = rw (← e, q)
+pub runs_there : (r f g : Bound) (c : Command) → r ≡ f → r ≡ bound.Run c → bound.Run c ≡ before f g
+runs_there r f g c e q = rw (← e, q)
 
-pub runs-elsewhere : (r f g h : Bound) → r ≡ f → r ≡ bound.Nothing → h ≡ g → h ≡ before f g
-runs-elsewhere r f g h e q p = rw (← e, q) p
+pub runs_elsewhere : (r f g h : Bound) → r ≡ f → r ≡ bound.Nothing → h ≡ g → h ≡ before f g
+runs_elsewhere r f g h e q p = rw (← e, q) p
 
-pub place-there : (r f g : Place) (k : ℕ) → r ≡ f → r ≡ At k → At k ≡ or_else f g
-place-there r f g k e q = rw (← e, q)
+pub place_there : (r f g : Place) (k : ℕ) → r ≡ f → r ≡ At k → At k ≡ or_else f g
+place_there r f g k e q = rw (← e, q)
 
-pub place-elsewhere : (r f g h : Place) → r ≡ f → r ≡ Nothing → h ≡ g → h ≡ or_else f g
-place-elsewhere r f g h e q p = rw (← e, q) p
+pub place_elsewhere : (r f g h : Place) → r ≡ f → r ≡ Nothing → h ≡ g → h ≡ or_else f g
+place_elsewhere r f g h e q p = rw (← e, q) p
 
 -- ── the encoder in reach ──
 
-found-or : (s : List ℕ) (f g : Place) → found_at s (or_else f g) ≡ precede (found_at s f) (found_at s g)
-found-or s (At k) g = refl
-found-or s Nothing g = refl
+found_or : (s : List ℕ) (f g : Place) → found_at s (or_else f g) ≡ precede (found_at s f) (found_at s g)
+found_or s (At k) g = refl
+found_or s Nothing g = refl
 
 -- its record has its destination
-pub encoder-place-found : (s : List ℕ) (bank number : ℕ) → found_at s (encoder_place s bank number) ≡ precede (encoder_of s 255 number) (encoder_of s bank number)
+pub encoder_place_found : (s : List ℕ) (bank number : ℕ) → found_at s (encoder_place s bank number) ≡ precede (encoder_of s 255 number) (encoder_of s bank number)
 unfolding encoder_place control_of
-encoder-place-found s bank number = found-or s (entry s 3 255 number) (entry s 3 bank number)
+encoder_place_found s bank number = found_or s (entry s 3 255 number) (entry s 3 bank number)
 
 one_of : (s : List ℕ) (bank number k : ℕ) (f : Place) → f ≡ entry s 3 255 number → or_else f (entry s 3 bank number) ≡ At k → (k < records s) × (is_kind s 3 k ≡ true)
 one_of s bank number k (At j) e q =

@@ -34,14 +34,14 @@ unfolding zeros settings bank fader profile all any count every verdict fields_o
 accepted = refl
 
 -- the fader twice
-declined-twice : verdict (profile ++ fader 240 63) ≡ 3
+declined_twice : verdict (profile ++ fader 240 63) ≡ 3
 unfolding zeros settings bank fader profile all any count every verdict fields_ok record_ok ok_as kind_count order_ok ordered_at control once_each
-declined-twice = refl
+declined_twice = refl
 
 -- high an infinity
-declined-endless : verdict (settings ++ (bank ++ fader 240 127)) ≡ 6
+declined_endless : verdict (settings ++ (bank ++ fader 240 127)) ≡ 6
 unfolding zeros settings bank fader all any count every verdict fields_ok record_ok ok_as kind_count order_ok ordered_at control once_each limits_ok at_most count_of finite_ok ends_finite le64 of_bits
-declined-endless = refl
+declined_endless = refl
 
 -- what is looked up: bank 0's fader 1, and no other
 bound : ((view_of profile).here 0).fader 1

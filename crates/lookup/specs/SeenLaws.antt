@@ -28,8 +28,8 @@ module _ {A : Type 0} (g : ℕ → A) (f : A → Bool) (xs : List ℕ) where
       (ap (at f) (map-take g n xs) ∙
       laws.at-hit f (g 0) (map g xs) k n h (rw (length-map xs g) l) (sym (ap (at f) (map-take g k xs)) ∙ e) (ap f (get_or-map g xs k 0) ∙ q))
 
-  pub no-match : (k n : ℕ) → k ≤ n → n ≤ k → at f (map g (take k xs)) ≡ k → k ≡ at f (map g (take n xs))
-  no-match k n h l e = let q : k ≡ n = omega arith in subst (λ (m : ℕ). k ≡ at f (map g (take m xs))) q (sym e)
+  pub no_match : (k n : ℕ) → k ≤ n → n ≤ k → at f (map g (take k xs)) ≡ k → k ≡ at f (map g (take n xs))
+  no_match k n h l e = let q : k ≡ n = omega arith in subst (λ (m : ℕ). k ≡ at f (map g (take m xs))) q (sym e)
 
   -- ── where the search among the first n ended at k ──
   module _ (n k : ℕ) (e : k ≡ at f (map g (take n xs))) (l : n ≤ length xs) where
@@ -40,7 +40,7 @@ module _ {A : Type 0} (g : ℕ → A) (f : A → Bool) (xs : List ℕ) where
     long = rw (length-map xs g) l
 
     pub within : k ≤ n
-    within = laws.found-le f (g 0) (map g xs) n k seen long
+    within = laws.found_le f (g 0) (map g xs) n k seen long
 
     pub found : k < n → find f (map g (take n xs)) ≡ some (g (get_or xs k 0))
     found h = ap (find f) (map-take g n xs) ∙ laws.found f (g 0) (map g xs) n k seen long h ∙ ap some (get_or-map g xs k 0)
@@ -55,14 +55,14 @@ module _ {A : Type 0} (g : ℕ → A) (f : A → Bool) (xs : List ℕ) where
     -- what is there is replaced, and else it comes behind
     pub put_in : (x : ℕ) → k < n → map g (take n (set xs k x)) ≡ change f (λ y. g x) (g x) (map g (take n xs))
     put_in x h =
-        map-take g n (set xs k x) ∙ ap (take n) (laws.map-set g xs k x) ∙ laws.change-in f (g 0) (map g xs) n k seen (λ y. g x) (g x) long h ∙ sym (ap (change f (λ y. g x) (g x)) (map-take g n xs))
+        map-take g n (set xs k x) ∙ ap (take n) (laws.map-set g xs k x) ∙ laws.change_in f (g 0) (map g xs) n k seen (λ y. g x) (g x) long h ∙ sym (ap (change f (λ y. g x) (g x)) (map-take g n xs))
 
-    pub put-out : (x : ℕ) → n < length xs → n ≤ k → map g (take (n + 1) (set xs k x)) ≡ change f (λ y. g x) (g x) (map g (take n xs))
-    put-out x r h =
+    pub put_out : (x : ℕ) → n < length xs → n ≤ k → map g (take (n + 1) (set xs k x)) ≡ change f (λ y. g x) (g x) (map g (take n xs))
+    put_out x r h =
         let q : k ≡ n = omega (arith, within) in
         map-take g (n + 1) (set xs k x) ∙
         ap (take (n + 1)) (laws.map-set g xs k x ∙ ap (λ (m : ℕ). set (map g xs) m (g x)) q) ∙
-        laws.change-out f (g 0) (map g xs) n k seen (λ y. g x) (g x) (rw (length-map xs g) r) h ∙
+        laws.change_out f (g 0) (map g xs) n k seen (λ y. g x) (g x) (rw (length-map xs g) r) h ∙
         sym (ap (change f (λ y. g x) (g x)) (map-take g n xs))
 
 -- the k-th of those that are seen

@@ -3,9 +3,9 @@ use Rattle.std.specs.Prelude.{ℕ, ◌≤◌, ◌<◌, ◌≡◌, List, [], ◌�
 use Rattle.std.proofs.Common.{◌∙◌, arith}
 use Rattle.std.proofs.lemmas.List.{map-append}
 use Rattle.base.specs.Range.{count}
-use Rattle.profile.specs.RangeMore.{count-mono}
+use Rattle.profile.specs.RangeMore.{count_mono}
 use Rattle.profile.specs.Profile.{records, count_of, verdict}
-use Rattle.profile.specs.Accepted.{few-transports}
+use Rattle.profile.specs.Accepted.{few_transports}
 use Rattle.lookup.specs.declared.Entry.{Entry}
 use Rattle.lookup.specs.Gather.{gather}
 use Rattle.lookup.specs.GatherLaws.{gather_none}
@@ -18,14 +18,14 @@ seen-one-more s ks rs k e = rw (e, map-append)
 module _ (s : List ℕ) (part : ℕ) where
   -- making the list: it is l so far
   module _ (k : ℕ) (l : List Entry) (is : l ≡ gather k (of_part s 5 part) (entry_at s)) where
-    pub own-done : reach s 5 ≡ k → l ≡ transports_of s part
+    pub own_done : reach s 5 ≡ k → l ≡ transports_of s part
     unfolding transports_of
-    own-done e = is ∙ rw e
+    own_done e = is ∙ rw e
 
   -- an accepted profile has at most 16 of one part
-  pub own-few : (k : ℕ) → verdict s ≡ 0 → part < 256 → k ≤ records s → count k (of_part s 5 part) ≤ 16
+  pub own_few : (k : ℕ) → verdict s ≡ 0 → part < 256 → k ≤ records s → count k (of_part s 5 part) ≤ 16
   unfolding count_of
-  own-few k a h l = omega (arith, few-transports s a part h, count-mono (of_part s 5 part) k (records s) l)
+  own_few k a h l = omega (arith, few_transports s a part h, count_mono (of_part s 5 part) k (records s) l)
 
 -- merging the globals: the list is l so far
 module _ (s : List ℕ) (k : ℕ) (own l : List Entry) (is : l ≡ merged (gather k (of_part s 5 255) (entry_at s)) own) where

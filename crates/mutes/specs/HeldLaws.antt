@@ -30,17 +30,17 @@ is_held target (e ∷ s) = go (eqb e.target target) (is_held target s)
     go false h = h
 
 -- a target is silenced exactly if its level is kept
-pub is-hushed : (target : ℕ) (s : List Hushed) (l : Level) (x : Float) → l ≡ hushed_level target s → l ≡ At x → is_hushed target (targets_of s) ≡ true
-is-hushed target s l x e h = rw (is_held target s, ← e, h)
+pub is_hushed_lem : (target : ℕ) (s : List Hushed) (l : Level) (x : Float) → l ≡ hushed_level target s → l ≡ At x → is_hushed target (targets_of s) ≡ true
+is_hushed_lem target s l x e h = rw (is_held target s, ← e, h)
 
-pub not-hushed : (target : ℕ) (s : List Hushed) (l : Level) → l ≡ hushed_level target s → l ≡ Unknown → is_hushed target (targets_of s) ≡ false
-not-hushed target s l e h = rw (is_held target s, ← e, h)
+pub not_hushed : (target : ℕ) (s : List Hushed) (l : Level) → l ≡ hushed_level target s → l ≡ Unknown → is_hushed target (targets_of s) ≡ false
+not_hushed target s l e h = rw (is_held target s, ← e, h)
 
 -- ── room ──
 
 -- b is whether the destination has a mute, and f what the fader is wired to, as the code has them
-pub room-for : (d : Destination) (l : List ℕ) (b : Bool) → b ≡ has_mute d → b ≡ false → room_for d l ≡ true → has_room (kept_by d) l ≡ true
-room-for d l b e h r = subst (λ x. pick x true (has_room (kept_by d) l) ≡ true) (sym e ∙ h) r
+pub room_for_lem : (d : Destination) (l : List ℕ) (b : Bool) → b ≡ has_mute d → b ≡ false → room_for d l ≡ true → has_room (kept_by d) l ≡ true
+room_for_lem d l b e h r = subst (λ x. pick x true (has_room (kept_by d) l) ≡ true) (sym e ∙ h) r
 
-pub room-at : (f g : Found) (d : Destination) (l : List ℕ) → f ≡ g → f ≡ found.To d → room_at g l ≡ true → room_for d l ≡ true
-room-at f g d l e h r = subst (λ x. room_at x l ≡ true) (sym e ∙ h) r
+pub room_at_lem : (f g : Found) (d : Destination) (l : List ℕ) → f ≡ g → f ≡ found.To d → room_at g l ≡ true → room_for d l ≡ true
+room_at_lem f g d l e h r = subst (λ x. room_at x l ≡ true) (sym e ∙ h) r

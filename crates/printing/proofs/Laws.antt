@@ -14,7 +14,7 @@ use borrow.Author.Tests.{leb-true, leb-false, ltb-true, lt-ltb}
 use Rattle.base.specs.Choice.{pick}
 use Rattle.drivers.specs.declared.Call.{Call}
 use Rattle.drivers.specs.Shown.{call_at, calls_in, message_at, messages_in}
-use Rattle.drivers.specs.BytesLaws.{take-three}
+use Rattle.drivers.specs.BytesLaws.{take_three}
 use Rattle.io.specs.Digits.{IsDigitCount, hex_digit_ascii, last_digits}
 use Rattle.printing.specs.Ascii.{ascii}
 use Rattle.printing.specs.Text.{decimal_in, decimal, bits, hex, kind_words, kind_word, message_line, message_lines, call_line, call_lines}
@@ -78,23 +78,23 @@ byte_more p bs i l e f =
     rw (some, take-suc bs i 0 l, hex-append (take i bs) (get_or bs i 0 ∷ [])) (then2 p (hex (take i bs)) (hex (get_or bs i 0 ∷ [])) e f)
 
 -- one message more, and one call more, of those that are read from a buffer
-message-lines : (ms : List (List ℕ)) (m : List ℕ) → message_lines (ms ++ (m ∷ [])) ≡ message_lines ms ++ message_line m
+message_lines_lem : (ms : List (List ℕ)) (m : List ℕ) → message_lines (ms ++ (m ∷ [])) ≡ message_lines ms ++ message_line m
 unfolding message_lines
-message-lines [] m = append-nil (message_line m)
-message-lines (x ∷ ms) m = rw (message-lines ms m) (sym (append_assoc (message_line x) (message_lines ms) (message_line m)))
+message_lines_lem [] m = append-nil (message_line m)
+message_lines_lem (x ∷ ms) m = rw (message_lines_lem ms m) (sym (append_assoc (message_line x) (message_lines ms) (message_line m)))
 
-call-lines : (cs : List Call) (c : Call) → call_lines (cs ++ (c ∷ [])) ≡ call_lines cs ++ call_line c
+call_lines_lem : (cs : List Call) (c : Call) → call_lines (cs ++ (c ∷ [])) ≡ call_lines cs ++ call_line c
 unfolding call_lines
-call-lines [] c = append-nil (call_line c)
-call-lines (x ∷ cs) c = rw (call-lines cs c) (sym (append_assoc (call_line x) (call_lines cs) (call_line c)))
+call_lines_lem [] c = append-nil (call_line c)
+call_lines_lem (x ∷ cs) c = rw (call_lines_lem cs c) (sym (append_assoc (call_line x) (call_lines cs) (call_line c)))
 
-pub message-more : (p ms : List ℕ) (i n : ℕ) {x y : List ℕ} → 3 * i + 3 ≤ length ms → n ≡ 3 → x ≡ p ++ message_lines (messages_in i ms) →
+pub message_more : (p ms : List ℕ) (i n : ℕ) {x y : List ℕ} → 3 * i + 3 ≤ length ms → n ≡ 3 → x ≡ p ++ message_lines (messages_in i ms) →
     y ≡ x ++ message_line (take n (drop (3 * i) ms)) → y ≡ p ++ message_lines (messages_in (i + 1) ms)
 unfolding messages_in
-message-more p ms i n {x = x} l q e f =
+message_more p ms i n {x = x} l q e f =
     let some : i + 1 ≡ suc i = omega arith in
-    let three : take n (drop (3 * i) ms) ≡ message_at ms (3 * i) = ap (λ (k : ℕ). take k (drop (3 * i) ms)) q ∙ sym (take-three ms (3 * i) l) in
-    rw (some, message-lines (messages_in i ms) (message_at ms (3 * i)))
+    let three : take n (drop (3 * i) ms) ≡ message_at ms (3 * i) = ap (λ (k : ℕ). take k (drop (3 * i) ms)) q ∙ sym (take_three ms (3 * i) l) in
+    rw (some, message_lines_lem (messages_in i ms) (message_at ms (3 * i)))
     (then2 p (message_lines (messages_in i ms)) (message_line (message_at ms (3 * i))) e (f ∙ ap (λ (m : List ℕ). x ++ message_line m) three))
 
 pub call-more : (p cs : List ℕ) (i : ℕ) (c : Call) {x y : List ℕ} → c ≡ call_at cs (16 * i) → x ≡ p ++ call_lines (calls_in i cs) → y ≡ x ++ call_line c →
@@ -102,16 +102,16 @@ pub call-more : (p cs : List ℕ) (i : ℕ) (c : Call) {x y : List ℕ} → c �
 unfolding calls_in
 call-more p cs i c {x = x} q e f =
     let some : i + 1 ≡ suc i = omega arith in
-    rw (some, call-lines (calls_in i cs) (call_at cs (16 * i)))
+    rw (some, call_lines_lem (calls_in i cs) (call_at cs (16 * i)))
     (then2 p (call_lines (calls_in i cs)) (call_line (call_at cs (16 * i))) e (f ∙ ap (λ (k : Call). x ++ call_line k) q))
 
 past : (n k : ℕ) → n ≤ k → k ≢ n → suc n ≤ k
 past n k l h = omega arith
 
 -- a kind that is none of those before `live`
-pub live-kind : (k : ℕ) → k ≢ 0 → k ≢ 1 → k ≢ 2 → k ≢ 3 → k ≢ 4 → k ≢ 5 → k ≢ 6 → k ≢ 7 → k ≢ 8 → kind_word k ≡ ascii "live"
+pub live_kind : (k : ℕ) → k ≢ 0 → k ≢ 1 → k ≢ 2 → k ≢ 3 → k ≢ 4 → k ≢ 5 → k ≢ 6 → k ≢ 7 → k ≢ 8 → kind_word k ≡ ascii "live"
 unfolding kind_word
-live-kind k h0 h1 h2 h3 h4 h5 h6 h7 h8 =
+live_kind k h0 h1 h2 h3 h4 h5 h6 h7 h8 =
     let l = past 8 k (past 7 k (past 6 k (past 5 k (past 4 k (past 3 k (past 2 k (past 1 k (past 0 k (omega arith) h0) h1) h2) h3) h4) h5) h6) h7) h8 in
     get_or-eq_default kind_words (ascii "live") {n = k} l
 
@@ -155,22 +155,22 @@ fewer n j f =
     let same : suc j - 1 ≡ j = omega arith in
     (omega arith, omega (arith, f.1, wide), λ h. rw same (omega (arith, least, tall)))
 
-decimal-in : (more n k : ℕ) → k ≤ suc more → IsDigitCount 10 1 n k → last_digits 10 k n ≡ decimal_in more n
+decimal_in_lem : (more n k : ℕ) → k ≤ suc more → IsDigitCount 10 1 n k → last_digits 10 k n ≡ decimal_in more n
 unfolding decimal_in
-decimal-in more n zero h f = absurd (omega (arith, f.0))
-decimal-in zero n (suc zero) h f = refl
-decimal-in zero n (suc (suc j)) h f = absurd (omega arith)
-decimal-in (suc more) n (suc zero) h f =
+decimal_in_lem more n zero h f = absurd (omega (arith, f.0))
+decimal_in_lem zero n (suc zero) h f = refl
+decimal_in_lem zero n (suc (suc j)) h f = absurd (omega arith)
+decimal_in_lem (suc more) n (suc zero) h f =
     let l : n < 10 = f.1 in
     ap (λ (d : ℕ). hex_digit_ascii d ∷ []) (mod-eq_of_lt l) ∙ ap (λ (t : Bool). pick t (hex_digit_ascii n ∷ []) (decimal_in more (n / 10) ++ (hex_digit_ascii (n % 10) ∷ []))) (sym (lt-ltb n 10 l))
-decimal-in (suc more) n (suc (suc j)) h f = go (ltb n 10) refl (decimal-in more (n / 10) (suc j) (omega arith) (fewer n j f))
+decimal_in_lem (suc more) n (suc (suc j)) h f = go (ltb n 10) refl (decimal_in_lem more (n / 10) (suc j) (omega arith) (fewer n j f))
   where
     go : (t : Bool) → ltb n 10 ≡ t → last_digits 10 (suc j) (n / 10) ≡ decimal_in more (n / 10) → last_digits 10 (suc (suc j)) n ≡ decimal_in (suc more) n
     go true e q = absurd (omega (arith, one_place n (suc (suc j)) f (ltb-true n 10 e)))
     go false e q = rw (e, q)
 
 pub decimal-is : (n k : ℕ) → n < 2 ^ 64 → IsDigitCount 10 1 n k → last_digits 10 k n ≡ decimal n
-decimal-is n k l f = decimal-in 19 n k (decimal-most n k l f) f
+decimal-is n k l f = decimal_in_lem 19 n k (decimal-most n k l f) f
 
 pub bits_are : (n k : ℕ) → n < 2 ^ 64 → IsDigitCount 16 16 n k → last_digits 16 k n ≡ bits n
 unfolding bits

@@ -30,38 +30,38 @@ cause-none true false n x r z = absurd (omega arith)
 cause-none false e n x r z = absurd (omega arith)
 
 module _ (s : List ℕ) (a b : Bool) (n : ℕ) where
-  pub by-cause : a ≡ size_ok s → not a ≡ false → b ≡ fields_ok s → not b ≡ false → n ≡ cause_of s → (n ≡ 0 → ⊥) → n ≡ verdict s
+  pub by_cause : a ≡ size_ok s → not a ≡ false → b ≡ fields_ok s → not b ≡ false → n ≡ cause_of s → (n ≡ 0 → ⊥) → n ≡ verdict s
   unfolding verdict
-  by-cause p x q y r z = rw (← p, not-false a x, ← q, not-false b y) (cause-first (order_ok s) (banks_ok s) n _ r z)
+  by_cause p x q y r z = rw (← p, not-false a x, ← q, not-false b y) (cause-first (order_ok s) (banks_ok s) n _ r z)
 
 module _ (s : List ℕ) (a b e : Bool) (n : ℕ) where
-  pub by-limits : a ≡ size_ok s → not a ≡ false → b ≡ fields_ok s → not b ≡ false → n ≡ cause_of s → n ≡ 0 →
+  pub by_limits : a ≡ size_ok s → not a ≡ false → b ≡ fields_ok s → not b ≡ false → n ≡ cause_of s → n ≡ 0 →
       e ≡ limits_ok s → not e ≡ true → 5 ≡ verdict s
   unfolding verdict
-  by-limits p x q y r z v w = rw (← p, not-false a x, ← q, not-false b y, ← v, not-true e w) (cause-none (order_ok s) (banks_ok s) n 5 r z)
+  by_limits p x q y r z v w = rw (← p, not-false a x, ← q, not-false b y, ← v, not-true e w) (cause-none (order_ok s) (banks_ok s) n 5 r z)
 
 module _ (s : List ℕ) (a b e f : Bool) (n : ℕ) where
-  pub by-ends : a ≡ size_ok s → not a ≡ false → b ≡ fields_ok s → not b ≡ false → n ≡ cause_of s → n ≡ 0 →
+  pub by_ends : a ≡ size_ok s → not a ≡ false → b ≡ fields_ok s → not b ≡ false → n ≡ cause_of s → n ≡ 0 →
       e ≡ limits_ok s → not e ≡ false → f ≡ finite_ok s → not f ≡ true → 6 ≡ verdict s
   unfolding verdict
-  by-ends p x q y r z v w g h = rw (← p, not-false a x, ← q, not-false b y, ← v, not-false e w, ← g, not-true f h) (cause-none (order_ok s) (banks_ok s) n 6 r z)
+  by_ends p x q y r z v w g h = rw (← p, not-false a x, ← q, not-false b y, ← v, not-false e w, ← g, not-true f h) (cause-none (order_ok s) (banks_ok s) n 6 r z)
 
-  pub by-none : a ≡ size_ok s → not a ≡ false → b ≡ fields_ok s → not b ≡ false → n ≡ cause_of s → n ≡ 0 →
+  pub by_none : a ≡ size_ok s → not a ≡ false → b ≡ fields_ok s → not b ≡ false → n ≡ cause_of s → n ≡ 0 →
       e ≡ limits_ok s → not e ≡ false → f ≡ finite_ok s → not f ≡ false → 0 ≡ verdict s
   unfolding verdict
-  by-none p x q y r z v w g h = rw (← p, not-false a x, ← q, not-false b y, ← v, not-false e w, ← g, not-false f h) (cause-none (order_ok s) (banks_ok s) n 0 r z)
+  by_none p x q y r z v w g h = rw (← p, not-false a x, ← q, not-false b y, ← v, not-false e w, ← g, not-false f h) (cause-none (order_ok s) (banks_ok s) n 0 r z)
 
 -- what a test that was passed says
 pub passed : (a b : Bool) → a ≡ b → not a ≡ false → b ≡ true
 passed a b p x = rw (← p) (not-false a x)
 
 -- number 3 is passed where `cause` finds none
-order-passed : (d e : Bool) (n : ℕ) → n ≡ cond d (cond e 0 4) 3 → n ≡ 0 → d ≡ true
-order-passed true e n r z = refl
-order-passed false e n r z = absurd (omega arith)
+order_passed : (d e : Bool) (n : ℕ) → n ≡ cond d (cond e 0 4) 3 → n ≡ 0 → d ≡ true
+order_passed true e n r z = refl
+order_passed false e n r z = absurd (omega arith)
 
 pub in_order : (s : List ℕ) (n : ℕ) → n ≡ cause_of s → n ≡ 0 → order_ok s ≡ true
-in_order s n r z = order-passed (order_ok s) (banks_ok s) n r z
+in_order s n r z = order_passed (order_ok s) (banks_ok s) n r z
 
 pub short : (s : List ℕ) (a : Bool) → a ≡ size_ok s → not a ≡ false → length s ≤ 65536
 short s a p x = leb-true (length s) 65536 (every-at _ 1 (passed a (size_ok s) p x))

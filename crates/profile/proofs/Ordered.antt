@@ -11,9 +11,9 @@ use native.Mathlib.Omega.{arith}
 use lib.Dec.{eqb, ltb, leb}
 use borrow.Author.Tests.{leb-true, ltb-true, ltb-false, eqb-true, le-leb, le-ltb, lt-ltb, eq-eqb, ne_eqb, not-true, not-false}
 use Rattle.base.specs.Range.{all, count, bit, every}
-use Rattle.base.specs.RangeLaws.{all_none, all_more, all-at, all-each, all-stop, all_done, count_none, count-more, count-le, count-done, or_cases, or-left-no, or-right-no, bool_iff, every-at, and_left, and_right, and_intro}
+use Rattle.base.specs.RangeLaws.{all_none, all_more, all-at, all_each, all_stop, all_done, count_none, count-more, count-le, count-done, or_cases, or_left_no, or_right_no, bool_iff, every-at, and_left, and_right, and_intro}
 use Rattle.profile.specs.Profile.{records, byte_at, is_kind, kind_count, bank_count, kind_before, rises, runs, names_bank, ordered_at, once_each, order_ok, banks_ok}
-use Rattle.profile.specs.RangeMore.{count-mono, count-reach}
+use Rattle.profile.specs.RangeMore.{count_mono, count-reach}
 
 -- record k, if it is of kind 2 to 5, names one of the banks before it or the globals
 abbrev pub names_before : List ℕ → ℕ → Bool
@@ -29,21 +29,21 @@ cause_of s = cond (order_ok s) (cond (banks_ok s) 0 4) 3
 count-step : (p : ℕ → Bool) (k : ℕ) (b : Bool) → p k ≡ b → count (k + 1) p ≡ count k p + bit b
 count-step p k b e = count-more p k ∙ rw e
 
-no-left : (a b : Bool) → a ≡ false → (a && b) ≡ false
-no-left a b e = rw e
+no_left : (a b : Bool) → a ≡ false → (a && b) ≡ false
+no_left a b e = rw e
 
 and_no : (a b : Bool) → (a && b) ≡ false → (a ≡ false) ⊎ ((a ≡ true) × (b ≡ false))
 and_no true b e = inr (refl, e)
 and_no false b e = inl refl
 
 -- none is counted from k on
-count-rest : (p : ℕ → Bool) (k n : ℕ) → k ≤ n → ((j : ℕ) → k ≤ j → j < n → p j ≡ false) → count k p ≡ count n p
+count_rest : (p : ℕ → Bool) (k n : ℕ) → k ≤ n → ((j : ℕ) → k ≤ j → j < n → p j ≡ false) → count k p ≡ count n p
 unfolding count
-count-rest p k zero h none = rw (le_antisymm h (omega arith))
-count-rest p k (suc n) h none =
+count_rest p k zero h none = rw (le_antisymm h (omega arith))
+count_rest p k (suc n) h none =
     ⊎_elim
     (λ e. rw e)
-    (λ l. let q : k ≤ n = omega arith in rw (none n q (omega arith)) (omega (arith, count-rest p k n q (λ j a b. none j a (omega arith)))))
+    (λ l. let q : k ≤ n = omega arith in rw (none n q (omega arith)) (omega (arith, count_rest p k n q (λ j a b. none j a (omega arith)))))
     (eq-or-lt_of_le h)
 
 grow : (a b : Bool) (x m n : ℕ) → m ≤ n → (a || (b || ltb x m)) ≡ true → (a || (b || ltb x n)) ≡ true
@@ -57,44 +57,44 @@ past false b d h = h refl
 
 module _ (s : List ℕ) where
   module _ (ok : all (records s) (ordered_at s) ≡ true) where
-    pub kinds-rise : (j k : ℕ) → j ≤ k → k < records s → byte_at s j 0 ≤ byte_at s k 0
+    pub kinds_rise : (j k : ℕ) → j ≤ k → k < records s → byte_at s j 0 ≤ byte_at s k 0
     unfolding ordered_at
-    kinds-rise j zero h l = rw (le_antisymm h (omega arith)) (omega arith)
-    kinds-rise j (suc k) h l =
+    kinds_rise j zero h l = rw (le_antisymm h (omega arith)) (omega arith)
+    kinds_rise j (suc k) h l =
         ⊎_elim
         (λ e. rw e (omega arith))
-        (λ m. omega (arith, leb-true (byte_at s k 0) (byte_at s (suc k) 0) (every-at _ 0 (all-at (ordered_at s) (records s) (suc k) ok l)), kinds-rise j k (omega arith) (omega arith)))
+        (λ m. omega (arith, leb-true (byte_at s k 0) (byte_at s (suc k) 0) (every-at _ 0 (all-at (ordered_at s) (records s) (suc k) ok l)), kinds_rise j k (omega arith) (omega arith)))
         (eq-or-lt_of_le h)
 
     -- no bank stands behind a record of kind 2 or more
     all-before : (k : ℕ) → k < records s → 2 ≤ byte_at s k 0 → count k (is_kind s 1) ≡ bank_count s
     unfolding kind_count
     all-before k l h =
-        count-rest (is_kind s 1) k (records s) (omega arith)
-        (λ j a b. ne_eqb (byte_at s j 0) 1 (λ e. omega (arith, kinds-rise k j a b)))
+        count_rest (is_kind s 1) k (records s) (omega arith)
+        (λ j a b. ne_eqb (byte_at s j 0) 1 (λ e. omega (arith, kinds_rise k j a b)))
 
     names_same : (k : ℕ) → k < records s → names_before s k ≡ names_bank s k
     names_same k l =
         past (ltb (byte_at s k 0) 2 || ltb 5 (byte_at s k 0)) _ _
-        (λ e. rw (all-before k l (ltb-false (byte_at s k 0) 2 (or-left-no _ _ e))))
+        (λ e. rw (all-before k l (ltb-false (byte_at s k 0) 2 (or_left_no _ _ e))))
 
-    here-too : (k : ℕ) → k < records s → ordered_here s k ≡ true
+    here_too : (k : ℕ) → k < records s → ordered_here s k ≡ true
     unfolding ordered_at every
-    here-too k l = rw (names_same k l) (all-at (ordered_at s) (records s) k ok l)
+    here_too k l = rw (names_same k l) (all-at (ordered_at s) (records s) k ok l)
 
-  there-too : all (records s) (ordered_here s) ≡ true → (k : ℕ) → k < records s → ordered_at s k ≡ true
+  there_too : all (records s) (ordered_here s) ≡ true → (k : ℕ) → k < records s → ordered_at s k ≡ true
   unfolding ordered_at every kind_count
-  there-too ok k l =
+  there_too ok k l =
       let h = all-at (ordered_here s) (records s) k ok l in
       let t : (runs s k && names_before s k) ≡ true = and_right (rises s k) _ h in
       and_intro (rises s k) _ (and_left (rises s k) _ h)
-      (and_intro (runs s k) _ (and_left (runs s k) _ t) (grow (ltb (byte_at s k 0) 2 || ltb 5 (byte_at s k 0)) (eqb (byte_at s k 1) 255) (byte_at s k 1) (count k (is_kind s 1)) _ (count-mono (is_kind s 1) k (records s) (omega arith)) (and_right (runs s k) _ t)))
+      (and_intro (runs s k) _ (and_left (runs s k) _ t) (grow (ltb (byte_at s k 0) 2 || ltb 5 (byte_at s k 0)) (eqb (byte_at s k 1) 255) (byte_at s k 1) (count k (is_kind s 1)) _ (count_mono (is_kind s 1) k (records s) (omega arith)) (and_right (runs s k) _ t)))
 
   pub ordered_same : all (records s) (ordered_here s) ≡ all (records s) (ordered_at s)
   ordered_same =
       bool_iff _ _
-      (λ ok. all-each (ordered_at s) (records s) (there-too ok))
-      (λ ok. all-each (ordered_here s) (records s) (here-too ok))
+      (λ ok. all_each (ordered_at s) (records s) (there_too ok))
+      (λ ok. all_each (ordered_here s) (records s) (here_too ok))
 
   -- the settings are there once, and every record stands where it may
   abbrev pub right_order : Bool
@@ -129,31 +129,31 @@ module _ (s : List ℕ) where
       go true h = absurd (h refl)
       go false h = refl
 
-  stop-here : (k : ℕ) → k < records s → ordered_here s k ≡ false → right_order ≡ false
-  stop-here k l e = rw (← ordered_same, ← all-stop (ordered_here s) (records s) k l e, and-false)
+  stop_here : (k : ℕ) → k < records s → ordered_here s k ≡ false → right_order ≡ false
+  stop_here k l e = rw (← ordered_same, ← all_stop (ordered_here s) (records s) k l e, and-false)
 
   -- the settings are the first record
-  first-wrong : (0 < records s → 0 < byte_at s 0 0) → right_order ≡ false
+  first_wrong : (0 < records s → 0 < byte_at s 0 0) → right_order ≡ false
   unfolding kind_count
-  first-wrong h =
+  first_wrong h =
       wrong (λ ok.
       let one = eqb-true (kind_count s 0) 1 (and_left (eqb (kind_count s 0) 1) _ ok) in
       let w = count-reach (is_kind s 0) 0 (records s) (omega arith) in
       let q = eqb-true (byte_at s w.0 0) 0 w.2 in
-      omega (arith, h (omega arith), kinds-rise (and_right (eqb (kind_count s 0) 1) _ ok) 0 w.0 (omega arith) w.1))
+      omega (arith, h (omega arith), kinds_rise (and_right (eqb (kind_count s 0) 1) _ ok) 0 w.0 (omega arith) w.1))
 
   pub none_first : (k : ℕ) → k ≡ 0 → (k < records s → 1 < byte_at s k 0) → right_order ≡ false
-  none_first k z up = first-wrong (λ l. let q : 1 < byte_at s 0 0 = rw z at (up (rw z l)) in omega arith)
+  none_first k z up = first_wrong (λ l. let q : 1 < byte_at s 0 0 = rw z at (up (rw z l)) in omega arith)
 
-  pub head-none : Head 0
-  head-none = record { right = all_none _; settings = λ l. absurd (omega arith); banks = count_none _; low = omega arith }
+  pub head_none : Head 0
+  head_none = record { right = all_none _; settings = λ l. absurd (omega arith); banks = count_none _; low = omega arith }
 
   here : (k : ℕ) → rises s k ≡ true → runs s k ≡ true → names_before s k ≡ true → ordered_here s k ≡ true
   here k a b d = and_intro (rises s k) _ a (and_intro (runs s k) _ b d)
 
   -- one more of the settings and banks
-  settings-next : (k : ℕ) → k ≡ 0 → byte_at s k 0 ≡ 0 → Head k → Head (k + 1)
-  settings-next k z q h =
+  settings_next : (k : ℕ) → k ≡ 0 → byte_at s k 0 ≡ 0 → Head k → Head (k + 1)
+  settings_next k z q h =
       let no : is_kind s 1 k ≡ false = ne_eqb (byte_at s k 0) 1 (λ x. omega arith) in
       record {
         right = all_more _ k h.right (here k (le-leb (kind_before s k) (byte_at s k 0) (rw z (omega arith))) (rw no) (rw (lt-ltb (byte_at s k 0) 2 (omega arith))));
@@ -162,8 +162,8 @@ module _ (s : List ℕ) where
         low = rw add-one (omega arith);
       }
 
-  bank-next : (k : ℕ) → byte_at s k 0 ≡ 1 → byte_at s k 1 + 1 ≡ k → Head k → Head (k + 1)
-  bank-next k q b h =
+  bank_next : (k : ℕ) → byte_at s k 0 ≡ 1 → byte_at s k 1 + 1 ≡ k → Head k → Head (k + 1)
+  bank_next k q b h =
       record {
         right = all_more _ k h.right
             (here k (le-leb (kind_before s k) (byte_at s k 0) (omega (arith, h.low))) (rw (eq-eqb (byte_at s k 1) (count k (is_kind s 1)) (omega (arith, h.banks)), or-true)) (rw (lt-ltb (byte_at s k 0) 2 (omega arith))));
@@ -175,36 +175,36 @@ module _ (s : List ℕ) where
   pub head_more : (k : ℕ) → leads k ≡ true → Head k → Head (k + 1)
   head_more k e h =
       ⊎_elim
-      (λ a. settings-next k (eqb-true k 0 (and_left (eqb k 0) _ a)) (eqb-true (byte_at s k 0) 0 (and_right (eqb k 0) _ a)) h)
-      (λ b. bank-next k (eqb-true (byte_at s k 0) 1 (and_left (eqb (byte_at s k 0) 1) _ b)) (eqb-true (byte_at s k 1 + 1) k (and_right (eqb (byte_at s k 0) 1) _ b)) h)
+      (λ a. settings_next k (eqb-true k 0 (and_left (eqb k 0) _ a)) (eqb-true (byte_at s k 0) 0 (and_right (eqb k 0) _ a)) h)
+      (λ b. bank_next k (eqb-true (byte_at s k 0) 1 (and_left (eqb (byte_at s k 0) 1) _ b)) (eqb-true (byte_at s k 1 + 1) k (and_right (eqb (byte_at s k 0) 1) _ b)) h)
       (or_cases (eqb k 0 && eqb (byte_at s k 0) 0) _ e)
 
   -- the settings a second time, or a bank whose number is not its place
-  settings-wrong : (k : ℕ) → k < records s → 0 < k → byte_at s k 0 ≡ 0 → Head k → right_order ≡ false
+  settings_wrong : (k : ℕ) → k < records s → 0 < k → byte_at s k 0 ≡ 0 → Head k → right_order ≡ false
   unfolding kind_count
-  settings-wrong k l z q h =
-      let more = count-mono (is_kind s 0) (k + 1) (records s) (omega arith) in
+  settings_wrong k l z q h =
+      let more = count_mono (is_kind s 0) (k + 1) (records s) (omega arith) in
       rw (ne_eqb (count (records s) (is_kind s 0)) 1 (λ x. omega (arith, more, count-step (is_kind s 0) k true (eq-eqb (byte_at s k 0) 0 q), h.settings z)))
 
-  bank-wrong : (k : ℕ) → k < records s → 0 < k → byte_at s k 0 ≡ 1 → (byte_at s k 1 + 1 ≡ k → ⊥) → Head k → right_order ≡ false
-  bank-wrong k l z q b h =
-      stop-here k l (rw (eq-eqb (byte_at s k 0) 1 q, ne_eqb (byte_at s k 1) (count k (is_kind s 1)) (λ x. b (omega (arith, h.banks))), and-false))
+  bank_wrong : (k : ℕ) → k < records s → 0 < k → byte_at s k 0 ≡ 1 → (byte_at s k 1 + 1 ≡ k → ⊥) → Head k → right_order ≡ false
+  bank_wrong k l z q b h =
+      stop_here k l (rw (eq-eqb (byte_at s k 0) 1 q, ne_eqb (byte_at s k 1) (count k (is_kind s 1)) (λ x. b (omega (arith, h.banks))), and-false))
 
-  pub head-stop : (k : ℕ) → k < records s → byte_at s k 0 ≤ 1 → leads k ≡ false → Head k → right_order ≡ false
-  head-stop k l a e h =
-      let first = or-left-no (eqb k 0 && eqb (byte_at s k 0) 0) _ e in
-      let bank = or-right-no (eqb k 0 && eqb (byte_at s k 0) 0) _ e in
+  pub head_stop : (k : ℕ) → k < records s → byte_at s k 0 ≤ 1 → leads k ≡ false → Head k → right_order ≡ false
+  head_stop k l a e h =
+      let first = or_left_no (eqb k 0 && eqb (byte_at s k 0) 0) _ e in
+      let bank = or_right_no (eqb k 0 && eqb (byte_at s k 0) 0) _ e in
       ⊎_elim
-      (λ z. first-wrong (λ m. pos_of_ne-zero (λ q. absurd (false≢true (sym first ∙ and_intro _ _ (eq-eqb k 0 (sym z)) (eq-eqb (byte_at s k 0) 0 (rw (← z) q)))))))
+      (λ z. first_wrong (λ m. pos_of_ne-zero (λ q. absurd (false≢true (sym first ∙ and_intro _ _ (eq-eqb k 0 (sym z)) (eq-eqb (byte_at s k 0) 0 (rw (← z) q)))))))
       (λ z. ⊎_elim
-      (λ q. bank-wrong k l z q (λ b. absurd (false≢true (sym bank ∙ and_intro _ _ (eq-eqb (byte_at s k 0) 1 q) (eq-eqb (byte_at s k 1 + 1) k b)))) h)
-      (λ q. settings-wrong k l z (omega arith) h)
+      (λ q. bank_wrong k l z q (λ b. absurd (false≢true (sym bank ∙ and_intro _ _ (eq-eqb (byte_at s k 0) 1 q) (eq-eqb (byte_at s k 1 + 1) k b)))) h)
+      (λ q. settings_wrong k l z (omega arith) h)
       (eq-or-lt_of_le a))
       (eq-or-lt_of_le {n = 0} (omega arith))
 
   -- behind the settings and the banks
-  pub rest-none : (k : ℕ) → (k ≡ 0 → ⊥) → (k < records s → 1 < byte_at s k 0) → Head k → Rest (k - 1) 2 k
-  rest-none k z up h =
+  pub rest_none : (k : ℕ) → (k ≡ 0 → ⊥) → (k < records s → 1 < byte_at s k 0) → Head k → Rest (k - 1) 2 k
+  rest_none k z up h =
       record {
         right = h.right;
         settings = h.settings (pos_of_ne-zero z);
@@ -214,8 +214,8 @@ module _ (s : List ℕ) where
       }
 
   module _ (banks last k : ℕ) (l : k < records s) (h : Rest banks last k) where
-    names-there : leb last (byte_at s k 0) ≡ true → names_before s k ≡ (ltb 5 (byte_at s k 0) || (eqb (byte_at s k 1) 255 || ltb (byte_at s k 1) banks))
-    names-there a = let q = leb-true last (byte_at s k 0) a in rw (le-ltb (byte_at s k 0) 2 (omega (arith, h.high)), h.counted)
+    names_there : leb last (byte_at s k 0) ≡ true → names_before s k ≡ (ltb 5 (byte_at s k 0) || (eqb (byte_at s k 1) 255 || ltb (byte_at s k 1) banks))
+    names_there a = let q = leb-true last (byte_at s k 0) a in rw (le-ltb (byte_at s k 0) 2 (omega (arith, h.high)), h.counted)
 
     pub rest_more : follows last banks k ≡ true → Rest banks (byte_at s k 0) (k + 1)
     rest_more e =
@@ -223,19 +223,19 @@ module _ (s : List ℕ) where
         let q = leb-true last (byte_at s k 0) a in
         let no : is_kind s 1 k ≡ false = ne_eqb (byte_at s k 0) 1 (λ x. omega (arith, h.high)) in
         record {
-          right = all_more _ k h.right (here k (h.next l ∙ a) (rw no) (names-there a ∙ and_right (leb last (byte_at s k 0)) _ e));
+          right = all_more _ k h.right (here k (h.next l ∙ a) (rw no) (names_there a ∙ and_right (leb last (byte_at s k 0)) _ e));
           settings = omega (arith, count-step (is_kind s 0) k false (ne_eqb (byte_at s k 0) 0 (λ x. omega (arith, h.high))), h.settings);
           counted = omega (arith, count-step (is_kind s 1) k false no, h.counted);
           high = omega (arith, h.high);
           next = λ m. rw add-one;
         }
 
-    pub rest-stop : follows last banks k ≡ false → right_order ≡ false
-    rest-stop e =
-        stop-here k l
+    pub rest_stop : follows last banks k ≡ false → right_order ≡ false
+    rest_stop e =
+        stop_here k l
         (⊎_elim
-        (λ a. no-left (rises s k) _ (h.next l ∙ a))
-        (λ w. rw (names-there w.0, w.1, and-false (runs s k), and-false))
+        (λ a. no_left (rises s k) _ (h.next l ∙ a))
+        (λ w. rw (names_there w.0, w.1, and-false (runs s k), and-false))
         (and_no (leb last (byte_at s k 0)) _ e))
 
   pub none_found : right_order ≡ false → 0 ≡ cond right_order (bank_count s + 1) 0
@@ -266,19 +266,19 @@ module _ (s : List ℕ) where
     pub by_order : m ≡ 0 → 3 ≡ cause_of s
     by_order x = rw (order_is, found_none right_order (bank_count s) (sym x ∙ p))
 
-    pub by-found : (m ≡ 0 → ⊥) → all (records s) (ordered_at s) ≡ true
-    by-found x = and_right (eqb (kind_count s 0) 1) _ (found_some right_order m (bank_count s) p x).0
+    pub by_found : (m ≡ 0 → ⊥) → all (records s) (ordered_at s) ≡ true
+    by_found x = and_right (eqb (kind_count s 0) 1) _ (found_some right_order m (bank_count s) p x).0
 
     module _ (b : Bool) (x : m ≡ 0 → ⊥) (q : b ≡ once_each s) where
-      pub by-once : not b ≡ true → 3 ≡ cause_of s
-      by-once y = rw (order_is, ← q, not-true b y, and-false)
+      pub by_once : not b ≡ true → 3 ≡ cause_of s
+      by_once y = rw (order_is, ← q, not-true b y, and-false)
 
-      pub by-bank : not b ≡ false → m ≡ 1 → 4 ≡ cause_of s
-      by-bank y z =
+      pub by_bank : not b ≡ false → m ≡ 1 → 4 ≡ cause_of s
+      by_bank y z =
           let w = found_some right_order m (bank_count s) p x in
           rw (order_is, ← q, not-false b y, w.0, eq-eqb (bank_count s) 0 (omega (arith, w.1)))
 
-      pub by-neither : not b ≡ false → (m ≡ 1 → ⊥) → 0 ≡ cause_of s
-      by-neither y z =
+      pub by_neither : not b ≡ false → (m ≡ 1 → ⊥) → 0 ≡ cause_of s
+      by_neither y z =
           let w = found_some right_order m (bank_count s) p x in
           rw (order_is, ← q, not-false b y, w.0, ne_eqb (bank_count s) 0 (λ k. z (omega (arith, w.1))))

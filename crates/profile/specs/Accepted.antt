@@ -9,7 +9,7 @@ use Rattle.base.specs.Range.{count}
 use Rattle.base.specs.RangeLaws.{all-at, every-at}
 use Rattle.profile.specs.Profile.{kind_count, records, byte_at, is_kind, bank_count, size_ok, fields_ok, order_ok, ordered_at, banks_ok, limits_ok, at_most, count_of, finite_ok, verdict}
 use Rattle.profile.specs.RangeMore.{count-below}
-use Rattle.profile.specs.Fields.{bank-at}
+use Rattle.profile.specs.Fields.{bank_at_lem}
 
 pub record Accepted (s : List ℕ) : Type 0 where
   pub size : size_ok s ≡ true
@@ -36,21 +36,21 @@ accepted s q =
 
 module _ (s : List ℕ) (yes : verdict s ≡ 0) where
   -- at most 2,048 records
-  pub few-records : records s ≤ 2048
-  few-records = let h = leb-true (length s) 65536 (every-at _ 1 (accepted s yes).size) in omega arith
+  pub few_records : records s ≤ 2048
+  few_records = let h = leb-true (length s) 65536 (every-at _ 1 (accepted s yes).size) in omega arith
 
   -- there is a bank
-  pub some-bank : 1 ≤ bank_count s
-  some-bank = pos_of_ne-zero (eqb-false (bank_count s) 0 (not-true (eqb (bank_count s) 0) (accepted s yes).banks))
+  pub some_bank : 1 ≤ bank_count s
+  some_bank = pos_of_ne-zero (eqb-false (bank_count s) 0 (not-true (eqb (bank_count s) 0) (accepted s yes).banks))
 
   -- at most 128 scenes and 16 transports in one bank or the globals
-  pub few-scenes : (b : ℕ) → b < 256 → count_of s 4 b ≤ 128
+  pub few_scenes : (b : ℕ) → b < 256 → count_of s 4 b ≤ 128
   unfolding limits_ok at_most
-  few-scenes b l = leb-true (count_of s 4 b) 128 (all-at (λ x. leb (count_of s 4 x) 128) 256 b (every-at _ 0 (accepted s yes).limits) l)
+  few_scenes b l = leb-true (count_of s 4 b) 128 (all-at (λ x. leb (count_of s 4 x) 128) 256 b (every-at _ 0 (accepted s yes).limits) l)
 
-  pub few-transports : (b : ℕ) → b < 256 → count_of s 5 b ≤ 16
+  pub few_transports : (b : ℕ) → b < 256 → count_of s 5 b ≤ 16
   unfolding limits_ok at_most
-  few-transports b l = leb-true (count_of s 5 b) 16 (all-at (λ x. leb (count_of s 5 x) 16) 256 b (every-at _ 1 (accepted s yes).limits) l)
+  few_transports b l = leb-true (count_of s 5 b) 16 (all-at (λ x. leb (count_of s 5 x) 16) 256 b (every-at _ 1 (accepted s yes).limits) l)
 
   ordered_at_lem : (k : ℕ) → k < records s → ordered_at s k ≡ true
   unfolding order_ok
@@ -62,24 +62,24 @@ module _ (s : List ℕ) (yes : verdict s ≡ 0) where
   kind-rises k l = rw add-one (leb-true (byte_at s k 0) (byte_at s (suc k) 0) (every-at _ 0 (rw add-one at (ordered_at_lem (k + 1) l))))
 
   -- a bank's own number is the number of banks before it
-  pub bank-runs : (k : ℕ) → k < records s → byte_at s k 0 ≡ 1 → byte_at s k 1 ≡ count k (is_kind s 1)
+  pub bank_runs : (k : ℕ) → k < records s → byte_at s k 0 ≡ 1 → byte_at s k 1 ≡ count k (is_kind s 1)
   unfolding ordered_at
-  bank-runs k l e =
+  bank_runs k l e =
       let h : (not (is_kind s 1 k) || eqb (byte_at s k 1) (count k (is_kind s 1))) ≡ true = every-at _ 1 (ordered_at_lem k l) in
       eqb-true (byte_at s k 1) (count k (is_kind s 1)) (rw (eq-eqb (byte_at s k 0) 1 e) at h)
 
   -- at most 16 banks
-  pub few-banks : bank_count s ≤ 16
+  pub few_banks : bank_count s ≤ 16
   unfolding kind_count
-  few-banks =
+  few_banks =
       count-below (is_kind s 1) 16 (records s)
-      (λ k l e. let q = eqb-true (byte_at s k 0) 1 e in omega (arith, bank-runs k l q, (bank-at s (accepted s yes).fields k l q).own))
+      (λ k l e. let q = eqb-true (byte_at s k 0) 1 e in omega (arith, bank_runs k l q, (bank_at_lem s (accepted s yes).fields k l q).own))
 
   -- kinds never fall: a later record's is at least an earlier one's
-  pub kinds-rise : (j k : ℕ) → j ≤ k → k < records s → byte_at s j 0 ≤ byte_at s k 0
-  kinds-rise j zero h l = rw (le_antisymm h (omega arith)) (omega arith)
-  kinds-rise j (suc k) h l =
+  pub kinds_rise : (j k : ℕ) → j ≤ k → k < records s → byte_at s j 0 ≤ byte_at s k 0
+  kinds_rise j zero h l = rw (le_antisymm h (omega arith)) (omega arith)
+  kinds_rise j (suc k) h l =
       ⊎_elim
       (λ e. rw e (omega arith))
-      (λ m. let q : byte_at s k 0 ≤ byte_at s (suc k) 0 = rw add-one at (kind-rises k (omega arith)) in omega (arith, kinds-rise j k (omega arith) (omega arith)))
+      (λ m. let q : byte_at s k 0 ≤ byte_at s (suc k) 0 = rw add-one at (kind-rises k (omega arith)) in omega (arith, kinds_rise j k (omega arith) (omega arith)))
       (eq-or-lt_of_le h)

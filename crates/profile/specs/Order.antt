@@ -6,10 +6,10 @@ use Rattle.std.proofs.Math.Bool.{true}
 use Rattle.std.proofs.lemmas.List.{length-replicate}
 use borrow.Author.Tests.{eqb-true, eq-eqb}
 use Rattle.base.specs.Range.{all, any, bit, every}
-use Rattle.base.specs.RangeLaws.{all_none, all_more, every-at, and_left, and_right, and_intro, any-cong, bool_iff}
-use Rattle.base.specs.Tables.{hit, Marks, marks-none, marks-skip, marks-set}
+use Rattle.base.specs.RangeLaws.{all_none, all_more, every-at, and_left, and_right, and_intro, any_cong, bool_iff}
+use Rattle.base.specs.Tables.{hit, Marks, marks_none, marks_skip, marks_set}
 use Rattle.profile.specs.Profile.{records, byte_at, control, same, again, fields_ok}
-use Rattle.profile.specs.Fields.{control-at, control-kinds}
+use Rattle.profile.specs.Fields.{control-at, control_kinds}
 
 -- record k is one that leads the file, where it may stand: the settings first, then the banks from 0 on
 abbrev pub leads_at : List ℕ → ℕ → Bool
@@ -38,8 +38,8 @@ module _ (kind b n : ℕ) where
   slot-kind : slot_of kind b n / 512 ≡ kind % 2
   slot-kind = omega arith
 
-  slot-bank : slot_of kind b n / 16 % 32 ≡ b % 32
-  slot-bank = omega arith
+  slot_bank : slot_of kind b n / 16 % 32 ≡ b % 32
+  slot_bank = omega arith
 
   slot-number : slot_of kind b n % 16 ≡ n % 16
   slot-number = omega arith
@@ -47,24 +47,24 @@ module _ (kind b n : ℕ) where
 kind-mod : (x y : ℕ) → (x ≡ 2) ⊎ (x ≡ 3) → (y ≡ 2) ⊎ (y ≡ 3) → x % 2 ≡ y % 2 → x ≡ y
 kind-mod x y v w e = ⊎_elim (λ a. ⊎_elim (λ b. omega arith) (λ b. omega arith) w) (λ a. ⊎_elim (λ b. omega arith) (λ b. omega arith) w) v
 
-small-mod : (b : ℕ) → b ≤ 15 → b % 32 ≡ b
-small-mod b h = omega arith
+small_mod : (b : ℕ) → b ≤ 15 → b % 32 ≡ b
+small_mod b h = omega arith
 
-bank-mod : (x y : ℕ) → (x ≤ 15) ⊎ (x ≡ 255) → (y ≤ 15) ⊎ (y ≡ 255) → x % 32 ≡ y % 32 → x ≡ y
-bank-mod x y v w e =
+bank_mod : (x y : ℕ) → (x ≤ 15) ⊎ (x ≡ 255) → (y ≤ 15) ⊎ (y ≡ 255) → x % 32 ≡ y % 32 → x ≡ y
+bank_mod x y v w e =
     ⊎_elim
-    (λ a. ⊎_elim (λ b. omega (arith, small-mod x a, small-mod y b)) (λ b. omega (arith, small-mod x a)) w)
-    (λ a. ⊎_elim (λ b. omega (arith, small-mod y b)) (λ b. omega arith) w)
+    (λ a. ⊎_elim (λ b. omega (arith, small_mod x a, small_mod y b)) (λ b. omega (arith, small_mod x a)) w)
+    (λ a. ⊎_elim (λ b. omega (arith, small_mod y b)) (λ b. omega arith) w)
     v
 
 number-mod : (x y : ℕ) → 1 ≤ x → x ≤ 16 → 1 ≤ y → y ≤ 16 → x % 16 ≡ y % 16 → x ≡ y
 number-mod x y a b c d e = omega arith
 
 -- two that share a place are the same
-own-place : (k b n k' b' n' : ℕ) → Keyed k b n → Keyed k' b' n' → slot_of k b n ≡ slot_of k' b' n' → (k ≡ k') × (b ≡ b') × (n ≡ n')
-own-place k b n k' b' n' v w e = (
+own_place : (k b n k' b' n' : ℕ) → Keyed k b n → Keyed k' b' n' → slot_of k b n ≡ slot_of k' b' n' → (k ≡ k') × (b ≡ b') × (n ≡ n')
+own_place k b n k' b' n' v w e = (
   kind-mod k k' v.kinds w.kinds (sym (slot-kind k b n) ∙ ap (λ (x : ℕ). x / 512) e ∙ slot-kind k' b' n'),
-  bank-mod b b' v.bank w.bank (sym (slot-bank k b n) ∙ ap (λ (x : ℕ). x / 16 % 32) e ∙ slot-bank k' b' n'),
+  bank_mod b b' v.bank w.bank (sym (slot_bank k b n) ∙ ap (λ (x : ℕ). x / 16 % 32) e ∙ slot_bank k' b' n'),
   number-mod n n' v.low v.high w.low w.high (sym (slot-number k b n) ∙ ap (λ (x : ℕ). x % 16) e ∙ slot-number k' b' n'),
 )
 
@@ -72,9 +72,9 @@ own-place k b n k' b' n' v w e = (
 abbrev is_control : List ℕ → ℕ → Bool
 is_control s j = control (byte_at s j 0)
 
-keyed-at : (s : List ℕ) → fields_ok s ≡ true → (j : ℕ) → j < records s → is_control s j ≡ true → Keyed (byte_at s j 0) (byte_at s j 1) (byte_at s j 2)
-keyed-at s ok j l e =
-    let r = control-at s ok j l e in record { kinds = control-kinds (byte_at s j 0) e; bank = r.bank; low = r.low; high = r.high }
+keyed_at : (s : List ℕ) → fields_ok s ≡ true → (j : ℕ) → j < records s → is_control s j ≡ true → Keyed (byte_at s j 0) (byte_at s j 1) (byte_at s j 2)
+keyed_at s ok j l e =
+    let r = control-at s ok j l e in record { kinds = control_kinds (byte_at s j 0) e; bank = r.bank; low = r.low; high = r.high }
 
 -- an earlier fader or encoder shares record k's place exactly where it has k's kind, bank and number
 module _ (s : List ℕ) (k : ℕ) (ok : fields_ok s ≡ true) (in_file : k < records s) (of : is_control s k ≡ true) where
@@ -82,7 +82,7 @@ module _ (s : List ℕ) (k : ℕ) (ok : fields_ok s ≡ true) (in_file : k < rec
   unfolding every
   place_same j l e =
       let a : is_control s j ≡ true = and_left (is_control s j) _ e in
-      let w = own-place (byte_at s j 0) (byte_at s j 1) (byte_at s j 2) (byte_at s k 0) (byte_at s k 1) (byte_at s k 2) (keyed-at s ok j (omega arith) a) (keyed-at s ok k in_file of) (eqb-true (slot_at s j) (slot_at s k) (and_right (is_control s j) _ e)) in
+      let w = own_place (byte_at s j 0) (byte_at s j 1) (byte_at s j 2) (byte_at s k 0) (byte_at s k 1) (byte_at s k 2) (keyed_at s ok j (omega arith) a) (keyed_at s ok k in_file of) (eqb-true (slot_at s j) (slot_at s k) (and_right (is_control s j) _ e)) in
       rw (eq-eqb (byte_at s j 0) (byte_at s k 0) w.0, eq-eqb (byte_at s j 1) (byte_at s k 1) w.1, eq-eqb (byte_at s j 2) (byte_at s k 2) w.2)
 
   same_place : (j : ℕ) → same s k j ≡ true → hit (is_control s) (slot_at s) (slot_at s k) j ≡ true
@@ -93,7 +93,7 @@ module _ (s : List ℕ) (k : ℕ) (ok : fields_ok s ≡ true) (in_file : k < rec
       and_intro (is_control s j) (eqb (slot_at s j) (slot_at s k)) (ap control a ∙ of) (eq-eqb (slot_at s j) (slot_at s k) (rw (a, b, n)))
 
   seen-again : any k (hit (is_control s) (slot_at s) (slot_at s k)) ≡ any k (same s k)
-  seen-again = any-cong _ _ k (λ j l. bool_iff _ _ (place_same j l) (same_place j))
+  seen-again = any_cong _ _ k (λ j l. bool_iff _ _ (place_same j l) (same_place j))
 
 -- the loop's invariant: the table marks the places of the first k records, and none of these is there again
 pub record Once (s seen : List ℕ) (k : ℕ) : Type 0 where
@@ -112,24 +112,24 @@ bit-one false e = absurd (e refl)
 slot_lt : (s : List ℕ) (k : ℕ) → slot_at s k < 1024
 slot_lt s k = omega arith
 
-pub once-start : (s : List ℕ) → Once s (replicate 1024 0) 0
-once-start s = record { long = sym (length-replicate {A = ℕ} 1024 0); marks = marks-none (is_control s) (slot_at s) 1024; none = all_none _ }
+pub once_start : (s : List ℕ) → Once s (replicate 1024 0) 0
+once_start s = record { long = sym (length-replicate {A = ℕ} 1024 0); marks = marks_none (is_control s) (slot_at s) 1024; none = all_none _ }
 
-pub once-skip : (s : List ℕ) (k : ℕ) (seen : List ℕ) → is_control s k ≡ false → Once s seen k → Once s seen (k + 1)
-once-skip s k seen e h =
-    record { long = h.long; marks = marks-skip (is_control s) (slot_at s) 1024 seen k e h.marks; none = all_more _ k h.none (rw e) }
+pub once_skip : (s : List ℕ) (k : ℕ) (seen : List ℕ) → is_control s k ≡ false → Once s seen k → Once s seen (k + 1)
+once_skip s k seen e h =
+    record { long = h.long; marks = marks_skip (is_control s) (slot_at s) 1024 seen k e h.marks; none = all_more _ k h.none (rw e) }
 
 module _ (s : List ℕ) (k : ℕ) (seen : List ℕ) (ok : fields_ok s ≡ true) (in_file : k < records s) (of : is_control s k ≡ true) (h : Once s seen k) where
   mark : get_or seen (slot_at s k) 0 ≡ bit (any k (same s k))
   mark = h.marks (slot_at s k) (slot_lt s k) ∙ ap bit (seen-again s k ok in_file of)
 
-  pub once-mark : get_or seen (slot_at s k) 0 ≡ 0 → Once s (set seen (slot_at s k) 1) (k + 1)
-  once-mark z =
+  pub once_mark : get_or seen (slot_at s k) 0 ≡ 0 → Once s (set seen (slot_at s k) 1) (k + 1)
+  once_mark z =
       record {
         long = h.long ∙ sym (length-set seen (slot_at s k) 1);
-        marks = marks-set (is_control s) (slot_at s) 1024 seen k h.long (slot_lt s k) of h.marks;
+        marks = marks_set (is_control s) (slot_at s) 1024 seen k h.long (slot_lt s k) of h.marks;
         none = all_more _ k h.none (rw (of, bit-zero (any k (same s k)) (sym mark ∙ z)));
       }
 
-  pub once-found : (get_or seen (slot_at s k) 0 ≡ 0 → ⊥) → not (again s k) ≡ false
-  once-found z = rw (of, bit-one (any k (same s k)) (λ q. z (mark ∙ q)))
+  pub once_found : (get_or seen (slot_at s k) 0 ≡ 0 → ⊥) → not (again s k) ≡ false
+  once_found z = rw (of, bit-one (any k (same s k)) (λ q. z (mark ∙ q)))

@@ -41,14 +41,14 @@ module _ (p : ℕ → Bool) where
           ⊎_elim (λ q. (n, omega arith, e, omega arith)) (λ q. let w = ih (omega arith) in (w.0, omega arith, w.2, w.3)) (eq-or-lt_of_le h)
       go false e l ih = let h : m < count n p + 0 = rw e at l in let w = ih (omega arith) in (w.0, omega arith, w.2, w.3)
 
-  pub count-mono : (i n : ℕ) → i ≤ n → count i p ≤ count n p
+  pub count_mono : (i n : ℕ) → i ≤ n → count i p ≤ count n p
   unfolding count
-  count-mono i zero h = rw (le_antisymm h (omega arith)) (omega arith)
-  count-mono i (suc n) h =
-      ⊎_elim (λ e. rw e (omega arith)) (λ l. omega (arith, count-mono i n (omega arith))) (eq-or-lt_of_le h)
+  count_mono i zero h = rw (le_antisymm h (omega arith)) (omega arith)
+  count_mono i (suc n) h =
+      ⊎_elim (λ e. rw e (omega arith)) (λ l. omega (arith, count_mono i n (omega arith))) (eq-or-lt_of_le h)
 
   -- one that is counted has fewer before it than there are in all
   pub count-lt : (k n : ℕ) → k < n → p k ≡ true → count k p < count n p
   count-lt k n l e =
       let h : count (k + 1) p ≡ count k p + 1 = count-more p k ∙ rw e in
-      omega (arith, count-mono (k + 1) n (omega arith))
+      omega (arith, count_mono (k + 1) n (omega arith))

@@ -18,8 +18,8 @@ channel c = omega arith
 joined : (raw : ℕ) → raw_of (raw % 128) (raw / 128 % 256) ≡ raw % 16384
 joined raw = omega arith
 
-pub reads-back : (out : Out) → decode_of (bytes_of out) ≡ heard_of out
+pub reads_back : (out : Out) → decode_of (bytes_of out) ≡ heard_of out
 unfolding decode_of bytes_of
-reads-back (Led note true) = refl
-reads-back (Led note false) = refl
-reads-back (Position c raw) = rw (eq-eqb _ _ (family c), channel c, joined raw)
+reads_back (Led note true) = refl
+reads_back (Led note false) = refl
+reads_back (Position c raw) = rw (eq-eqb _ _ (family c), channel c, joined raw)

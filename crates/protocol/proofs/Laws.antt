@@ -16,17 +16,17 @@ use Rattle.protocol.specs.declared.Out.{Out}
 use Rattle.protocol.specs.declared.Out.TheVariants.{Led, Position}
 
 -- the eight notes of a base are bytes
-pub base-low : (k : ℕ) → k < 4 → get_or channel_bases k 0 ≤ 24
-base-low zero h = omega arith
-base-low (suc zero) h = omega arith
-base-low (suc (suc zero)) h = omega arith
-base-low (suc (suc (suc zero))) h = omega arith
-base-low (suc (suc (suc (suc k)))) h = absurd (omega arith)
+pub base_low : (k : ℕ) → k < 4 → get_or channel_bases k 0 ≤ 24
+base_low zero h = omega arith
+base_low (suc zero) h = omega arith
+base_low (suc (suc zero)) h = omega arith
+base_low (suc (suc (suc zero))) h = omega arith
+base_low (suc (suc (suc (suc k)))) h = absurd (omega arith)
 
 -- a base that has the note is one of the four, and starts at the note or below
-pub base-at : (note k : ℕ) → base_of note ≡ At k → (k < 4) × (get_or channel_bases k 0 ≤ note)
+pub base_at : (note k : ℕ) → base_of note ≡ At k → (k < 4) × (get_or channel_bases k 0 ≤ note)
 unfolding base_of
-base-at note k e =
+base_at note k e =
     let w = first-at (is_of_base note) 4 k e in
     (w.0, leb-true _ _ (and_left (leb (get_or channel_bases k 0) note) _ w.1))
 

@@ -25,23 +25,23 @@ not_is true = refl
 not_is false = refl
 
 -- what an accepted profile names as a bank's driver
-pub low-driver : (own : ℕ) {n : ℕ} → (n ≤ 15) ⊎ (n ≡ 65535) → own ≡ n → MayBeDriver own
-low-driver own (inl h) e = inl (omega arith)
-low-driver own (inr h) e = inr (omega arith)
+pub low_driver : (own : ℕ) {n : ℕ} → (n ≤ 15) ⊎ (n ≡ 65535) → own ≡ n → MayBeDriver own
+low_driver own (inl h) e = inl (omega arith)
+low_driver own (inr h) e = inr (omega arith)
 
 -- ── what a fader adds to the drivers so far ──
 
-pub no-driver : (f : Found) (s : List ℕ) → f ≡ found.Nothing → s ≡ s ++ driver_in f
-no-driver f s e = rw (e, append-nil)
+pub no_driver : (f : Found) (s : List ℕ) → f ≡ found.Nothing → s ≡ s ++ driver_in f
+no_driver f s e = rw (e, append-nil)
 
-pub its-driver : (f : Found) (d : Destination) (s : List ℕ) (n : ℕ) → f ≡ found.To d → n < length s → take (n + 1) (set s n d.driver) ≡ take n s ++ driver_in f
-its-driver f d s n e h = rw (e, add-one, take-suc-set)
+pub its_driver : (f : Found) (d : Destination) (s : List ℕ) (n : ℕ) → f ≡ found.To d → n < length s → take (n + 1) (set s n d.driver) ≡ take n s ++ driver_in f
+its_driver f d s n e h = rw (e, add-one, take-suc-set)
 
 module _ (h : Here) where
   -- ── the drivers ──
-  pub no-drivers : [] ≡ own_drivers h 0
+  pub no_drivers : [] ≡ own_drivers h 0
   unfolding own_drivers
-  no-drivers = refl
+  no_drivers = refl
 
   -- f is what fader n + 1 is wired to
   pub one-driver : (n : ℕ) (f : Found) (s t : List ℕ) → f ≡ own_fader h (n + 1) → s ≡ own_drivers h n → t ≡ s ++ driver_in f → t ≡ own_drivers h (n + 1)

@@ -12,13 +12,13 @@ use lib.Seq.{get_or-take, length-take-le}
 use borrow.Author.Tests.{not-true, not-false, eq-eqb, ne_eqb, lt-ltb, le-ltb, le-leb, leb-true, leb-false, eqb-false}
 use Rattle.base.specs.Choice.{pick}
 use Rattle.base.specs.First.{first}
-use Rattle.base.specs.RangeLaws.{or-left-no, or-right-no}
+use Rattle.base.specs.RangeLaws.{or_left_no, or_right_no}
 use Rattle.base.specs.FirstLaws.{first-at, first_more, first-hit, first_done}
 use Rattle.base.specs.KeyedLaws.{other_none}
 use Rattle.base.specs.declared.Place.{Place}
 use Rattle.base.specs.declared.Place.TheVariants as place
 use Rattle.profile.specs.Profile.{count_of, verdict}
-use Rattle.profile.specs.Accepted.{few-scenes}
+use Rattle.profile.specs.Accepted.{few_scenes}
 use Rattle.lookup.proofs.GatherLaws.{gather-length}
 use Rattle.lookup.specs.Lookup.{scenes_of, position}
 use Rattle.lookup.proofs.Known.{scenes-whole}
@@ -45,8 +45,8 @@ use Rattle.scenes.specs.declared.names.Offer.{Offer}
 -- ── the names that a device reported, the first n of an array ──
 
 module _ (s : Names) (few : s.count ≤ 128) (long : length s.list ≡ 128) where
-  pub names-length : length (seen_names s) ≡ s.count
-  names-length = length-take-le s.count s.list (omega arith)
+  pub names_length : length (seen_names s) ≡ s.count
+  names_length = length-take-le s.count s.list (omega arith)
 
   pub names_at : (i : ℕ) → i < s.count → get_or s.list i 0 ≡ get_or (seen_names s) i 65535
   names_at i l = other_none s.list i 0 65535 (omega arith) ∙ sym (get_or-take s.count s.list i 65535 l)
@@ -57,54 +57,54 @@ module _ (s : Names) (few : s.count ≤ 128) (long : length s.list ≡ 128) wher
     unfolding position
     place-hit l e =
         first-hit (λ k. eqb (get_or (seen_names s) k 65535) name) (length (seen_names s)) i none
-        (eq-eqb (get_or (seen_names s) i 65535) name (sym (names_at i l) ∙ e)) (rw names-length l)
+        (eq-eqb (get_or (seen_names s) i 65535) name (sym (names_at i l) ∙ e)) (rw names_length l)
 
     pub place-more : i < s.count → (get_or s.list i 0 ≡ name → ⊥) → first (i + 1) (λ k. eqb (get_or (seen_names s) k 65535) name) ≡ place.Nothing
     place-more l n = first_more (λ k. eqb (get_or (seen_names s) k 65535) name) i none (ne_eqb (get_or (seen_names s) i 65535) name (λ e. n (names_at i l ∙ e)))
 
     pub place-done : i ≤ s.count → s.count ≤ i → place.Nothing ≡ position name (seen_names s)
     unfolding position
-    place-done a b = first_done (λ k. eqb (get_or (seen_names s) k 65535) name) i (length (seen_names s)) (rw names-length a) (rw names-length b) none
+    place-done a b = first_done (λ k. eqb (get_or (seen_names s) k 65535) name) i (length (seen_names s)) (rw names_length a) (rw names_length b) none
 
   -- `place_of`: where the i-th of them stands among the names that are offered
   module _ (offered : List ℕ) (i : ℕ) where
-    pub past-names : s.count ≤ i → place.Nothing ≡ place_of offered i (seen_names s)
-    past-names h = rw (names-length, le-ltb i s.count h)
+    pub past_names : s.count ≤ i → place.Nothing ≡ place_of offered i (seen_names s)
+    past_names h = rw (names_length, le-ltb i s.count h)
 
-    pub among-names : (r : Place) → i < s.count → r ≡ position (get_or s.list i 0) offered → r ≡ place_of offered i (seen_names s)
-    among-names r l e = rw (names-length, lt-ltb i s.count l, ← names_at i l) e
+    pub among_names : (r : Place) → i < s.count → r ≡ position (get_or s.list i 0) offered → r ≡ place_of offered i (seen_names s)
+    among_names r l e = rw (names_length, lt-ltb i s.count l, ← names_at i l) e
 
 -- ── which scenes there are ──
 
 -- at most 128 of a bank of an accepted profile
-own-few : (p : List ℕ) → verdict p ≡ 0 → (b : ℕ) → b < 256 → length (scenes_of p b) ≤ 128
+own_few : (p : List ℕ) → verdict p ≡ 0 → (b : ℕ) → b < 256 → length (scenes_of p b) ≤ 128
 unfolding count_of
-own-few p ok b h = rw (scenes-whole p ok b, gather-length) (few-scenes p ok b h)
+own_few p ok b h = rw (scenes-whole p ok b, gather-length) (few_scenes p ok b h)
 
 module _ (p : List ℕ) (c : Current) (o : Offer) where
   -- the profile has a list
   module _ (n : ℕ) (q : o.own ≡ true) (e : n ≡ length (scenes_of p c.bank)) where
-    pub own-names : (t : Talk) → (n ≡ 0 → ⊥) → got (seen_offer p c.bank o) t ≡ scene_names (here_in p c) t
+    pub own_names : (t : Talk) → (n ≡ 0 → ⊥) → got (seen_offer p c.bank o) t ≡ scene_names (here_in p c) t
     unfolding scene_names
-    own-names t z = rw (q, ← e, ne_eqb n 0 z)
+    own_names t z = rw (q, ← e, ne_eqb n 0 z)
 
-    pub own-offers : verdict p ≡ 0 → c.bank < 256 → o.count ≡ n → o.names.count ≤ 128 → Offers p c.bank o
-    own-offers ok l k m = record { count = rw q (k ∙ e); few = rw (k, e) (own-few p ok c.bank l); names = m }
+    pub own_offers : verdict p ≡ 0 → c.bank < 256 → o.count ≡ n → o.names.count ≤ 128 → Offers p c.bank o
+    own_offers ok l k m = record { count = rw q (k ∙ e); few = rw (k, e) (own_few p ok c.bank l); names = m }
 
   -- it has none: what the device reports
   module _ (s : Names) (q : o.own ≡ false) (r : o.names ≡ s) where
-    pub reported-offers : o.count ≡ s.count → s.count ≤ 128 → length s.list ≡ 128 → Offers p c.bank o
-    reported-offers k h l = record { count = rw (q, r) (k ∙ sym (names-length s h l)); few = rw k h; names = rw r h }
+    pub reported_offers : o.count ≡ s.count → s.count ≤ 128 → length s.list ≡ 128 → Offers p c.bank o
+    reported_offers k h l = record { count = rw (q, r) (k ∙ sym (names_length s h l)); few = rw k h; names = rw r h }
 
     module _ (t : Talk) (n name : ℕ) (e : n ≡ length (scenes_of p c.bank)) (z : n ≡ 0) (d : name ≡ device (here_in p c)) where
-      pub no-device : name ≡ 65535 → seen_names s ≡ [] → got (seen_offer p c.bank o) t ≡ scene_names (here_in p c) t
+      pub no_device : name ≡ 65535 → seen_names s ≡ [] → got (seen_offer p c.bank o) t ≡ scene_names (here_in p c) t
       unfolding scene_names
-      no-device f k = rw (q, r, k, ← e, eq-eqb n 0 z, ← d, eq-eqb name 65535 f)
+      no_device f k = rw (q, r, k, ← e, eq-eqb n 0 z, ← d, eq-eqb name 65535 f)
 
-      pub asks-device : (ok : Bool) (u : Talk) → (name ≡ 65535 → ⊥) → got (listed ok (seen_names s)) u ≡ askScenes name t →
+      pub asks_device : (ok : Bool) (u : Talk) → (name ≡ 65535 → ⊥) → got (listed ok (seen_names s)) u ≡ askScenes name t →
           got (seen_offer p c.bank o) u ≡ scene_names (here_in p c) t
       unfolding scene_names next
-      asks-device ok u f g = rw (q, r, ← e, eq-eqb n 0 z, ← d, ne_eqb name 65535 f, ← g)
+      asks_device ok u f g = rw (q, r, ← e, eq-eqb n 0 z, ← d, ne_eqb name 65535 f, ← g)
 
 -- a device that there is has a number of one byte
 pub one_byte : (name : ℕ) → (name ≤ 255) ⊎ (name ≡ 65535) → (name ≡ 65535 → ⊥) → name ≤ 255
@@ -115,41 +115,41 @@ one_byte name (inr h) n = absurd (n h)
 pub reported-name : (p : List ℕ) (bank : ℕ) (o : Offer) → Offers p bank o → length o.names.list ≡ 128 → o.own ≡ false → (i : ℕ) → i < o.count →
     get_or o.names.list i 0 ≡ get_or (seen_offer p bank o) i 65535
 reported-name p bank o w l q i h =
-    let n : length (seen_offer p bank o) ≡ o.names.count = rw q (names-length o.names w.names l) in
+    let n : length (seen_offer p bank o) ≡ o.names.count = rw q (names_length o.names w.names l) in
     let same : o.count ≡ o.names.count = w.count ∙ n in
     rw q (names_at o.names w.names l i (omega arith))
 
 -- ── where the device is ──
 
 -- a position of 32 bits holds every place in a list that is offered
-position-low : (name : ℕ) (l : List ℕ) → length l ≤ 128 → is_low (position name l) ≡ true
+position_low : (name : ℕ) (l : List ℕ) → length l ≤ 128 → is_low (position name l) ≡ true
 unfolding position
-position-low name l few = go (position name l) refl
+position_low name l few = go (position name l) refl
   where
     go : (q : Place) → position name l ≡ q → is_low q ≡ true
     go (place.At k) e = let h = (first-at (λ i. eqb (get_or l i 65535) name) (length l) k e).0 in le-leb k 4294967295 (omega arith)
     go place.Nothing e = refl
 
-place-low : (p : List ℕ) (bank : ℕ) (o : Offer) → Offers p bank o → (i : ℕ) (all : List ℕ) (r : Place) → r ≡ place_of (seen_offer p bank o) i all → is_low r ≡ true
-place-low p bank o w i all r e = rw e (go (ltb i (length all)))
+place_low : (p : List ℕ) (bank : ℕ) (o : Offer) → Offers p bank o → (i : ℕ) (all : List ℕ) (r : Place) → r ≡ place_of (seen_offer p bank o) i all → is_low r ≡ true
+place_low p bank o w i all r e = rw e (go (ltb i (length all)))
   where
     go : (b : Bool) → is_low (pick b (position (get_or all i 65535) (seen_offer p bank o)) place.Nothing) ≡ true
-    go true = position-low (get_or all i 65535) (seen_offer p bank o) (rw (← w.count) w.few)
+    go true = position_low (get_or all i 65535) (seen_offer p bank o) (rw (← w.count) w.few)
     go false = refl
 
-pub low-at : (q : Place) (i : ℕ) → is_low q ≡ true → q ≡ place.At i → i < 4294967296
-low-at q i h e = let k = leb-true i 4294967295 (sym (ap is_low e) ∙ h) in omega arith
+pub low_at : (q : Place) (i : ℕ) → is_low q ≡ true → q ≡ place.At i → i < 4294967296
+low_at q i h e = let k = leb-true i 4294967295 (sym (ap is_low e) ∙ h) in omega arith
 
 module _ (h : Here) (names : List ℕ) (t : Talk) (name : ℕ) (d : name ≡ device h) where
-  pub off-device : name ≡ 65535 → got place.Nothing t ≡ scene_on_device h names t
+  pub off_device : name ≡ 65535 → got place.Nothing t ≡ scene_on_device h names t
   unfolding scene_on_device
-  off-device f = rw (← d, eq-eqb name 65535 f)
+  off_device f = rw (← d, eq-eqb name 65535 f)
 
   -- the device answered i, and the line after it is u
   module _ (f : name ≡ 65535 → ⊥) (i : Index) (u : Talk) (g : got i u ≡ current_of name t) where
-    pub cannot-say : i ≡ index.Nothing → got place.Nothing u ≡ scene_on_device h names t
+    pub cannot_say : i ≡ index.Nothing → got place.Nothing u ≡ scene_on_device h names t
     unfolding scene_on_device next
-    cannot-say e = rw (← d, ne_eqb name 65535 f, ← g, e)
+    cannot_say e = rw (← d, ne_eqb name 65535 f, ← g, e)
 
     says : (k : ℕ) (ok : Bool) (all : List ℕ) (v : Talk) (r : Place) → i ≡ index.At k → got (listed ok all) v ≡ askScenes name u → r ≡ place_of names k all →
         got r v ≡ scene_on_device h names t
@@ -157,11 +157,11 @@ module _ (h : Here) (names : List ℕ) (t : Talk) (name : ℕ) (d : name ≡ dev
     says k ok all v r e a b = rw (← d, ne_eqb name 65535 f, ← g, e, ← a, b)
 
 -- and that place is one of 32 bits
-pub says-low : (p : List ℕ) (c : Current) (o : Offer) → Offers p c.bank o → (t : Talk) (name : ℕ) → name ≡ device (here_in p c) → (name ≡ 65535 → ⊥) → (i : Index) (u : Talk) →
+pub says_low : (p : List ℕ) (c : Current) (o : Offer) → Offers p c.bank o → (t : Talk) (name : ℕ) → name ≡ device (here_in p c) → (name ≡ 65535 → ⊥) → (i : Index) (u : Talk) →
     got i u ≡ current_of name t → (k : ℕ) (ok : Bool) (all : List ℕ) (v : Talk) (r : Place) → i ≡ index.At k → got (listed ok all) v ≡ askScenes name u →
     r ≡ place_of (seen_offer p c.bank o) k all → (got r v ≡ scene_on_device (here_in p c) (seen_offer p c.bank o) t) × (is_low r ≡ true)
-says-low p c o w t name d f i u g k ok all v r e a b =
-    (says (here_in p c) (seen_offer p c.bank o) t name d f i u g k ok all v r e a b, place-low p c.bank o w k all r b)
+says_low p c o w t name d f i u g k ok all v r e a b =
+    (says (here_in p c) (seen_offer p c.bank o) t name d f i u g k ok all v r e a b, place_low p c.bank o w k all r b)
 
 -- ── the position that is kept ──
 
@@ -169,8 +169,8 @@ module _ (l k : Lamps) (bank : ℕ) (q : Place) where
   pub placed_at : (i : ℕ) → q ≡ place.At i → k ≡ scene_to bank i l → k ≡ placed bank q l
   placed_at i e p = rw e p
 
-  pub placed-nowhere : q ≡ place.Nothing → k ≡ scene_unknown bank l → k ≡ placed bank q l
-  placed-nowhere e p = rw e p
+  pub placed_nowhere : q ≡ place.Nothing → k ≡ scene_unknown bank l → k ≡ placed bank q l
+  placed_nowhere e p = rw e p
 
   pub placed-flash : k ≡ placed bank q l → k.flash ≡ l.flash
   unfolding scene_to scene_unknown
@@ -193,11 +193,11 @@ module _ (h : Here) (names : List ℕ) (l : Lamps) (t : Talk) (at : Place) (a : 
 
 module _ (name i : ℕ) (s : Names) (few : s.count ≤ 128) (long : length s.list ≡ 128) (k : ℕ) where
   -- the place that the driver is told is one of 32 bits
-  pub told-low : (q : Place) → q ≡ position name (seen_names s) → k ≡ or_same q i → i < 4294967296 → k < 4294967296
-  told-low q p e h = rw e (go q p)
+  pub told_low : (q : Place) → q ≡ position name (seen_names s) → k ≡ or_same q i → i < 4294967296 → k < 4294967296
+  told_low q p e h = rw e (go q p)
     where
       go : (x : Place) → x ≡ position name (seen_names s) → or_same x i < 4294967296
-      go (place.At j) w = low-at (place.At j) j (ap is_low w ∙ position-low name (seen_names s) (rw (names-length s few long) few)) refl
+      go (place.At j) w = low_at (place.At j) j (ap is_low w ∙ position_low name (seen_names s) (rw (names_length s few long) few)) refl
       go place.Nothing w = h
 
 module _ (driver name i : ℕ) (t : Talk) (ok : Bool) (l : List ℕ) (u : Talk) (g : got (listed ok l) u ≡ askScenes driver t) where
@@ -205,9 +205,9 @@ module _ (driver name i : ℕ) (t : Talk) (ok : Bool) (l : List ℕ) (u : Talk) 
   unfolding load_on next
   not_listed e = rw (← g, not-true ok e)
 
-  pub loads-on : not ok ≡ false → (q : Place) (k : ℕ) (x : Got Bool) → q ≡ position name l → k ≡ or_same q i → x ≡ load_of driver k u → x ≡ load_on driver name i t
+  pub loads_on : not ok ≡ false → (q : Place) (k : ℕ) (x : Got Bool) → q ≡ position name l → k ≡ or_same q i → x ≡ load_of driver k u → x ≡ load_on driver name i t
   unfolding load_on next
-  loads-on e q k x p o b = rw (← g, not-false ok e, ← p, ← o) b
+  loads_on e q k x p o b = rw (← g, not-false ok e, ← p, ← o) b
 
 pub left_after : (bank i : ℕ) (l a b k : Lamps) → a ≡ scene_to bank i l → b ≡ solo_to 0 a → k ≡ none_noted b → k ≡ after_load bank i l
 left_after bank i l a b k p q r = r ∙ ap none_noted (q ∙ ap (solo_to 0) p)
@@ -218,11 +218,11 @@ load-flash bank i l k p = ap (λ (x : Lamps). x.flash) p
 
 -- a test of a device and a place in the list that was not met
 module _ (name n i : ℕ) (e : (eqb name 65535 || leb n i) ≡ false) where
-  pub is-there : name ≡ 65535 → ⊥
-  is-there = eqb-false name 65535 (or-left-no (eqb name 65535) (leb n i) e)
+  pub is_there : name ≡ 65535 → ⊥
+  is_there = eqb-false name 65535 (or_left_no (eqb name 65535) (leb n i) e)
 
   pub in_list : i < n
-  in_list = leb-false n i (or-right-no (eqb name 65535) (leb n i) e)
+  in_list = leb-false n i (or_right_no (eqb name 65535) (leb n i) e)
 
 -- the names that are offered, n of them, and the line u after them
 module _ (r : Rig) (s : List ℕ) (i : ℕ) (l : Lamps) (t : Talk) (names : List ℕ) (u : Talk) (g : got names u ≡ scene_names r.here t) (name : ℕ)
@@ -252,11 +252,11 @@ module _ (q : Place) (count s : ℕ) (e : q ≡ place.At s) (some : 1 ≤ count)
   pub left_end : (right : Bool) → right ≡ false → s ≡ 0 → s ≡ next_scene right q count
   left_end right r h = rw (r, e) (omega arith)
 
-  pub one-back : (right : Bool) → right ≡ false → s - 1 < count - 1 → s - 1 ≡ next_scene right q count
-  one-back right r h = rw (r, e) (omega arith)
+  pub one_back : (right : Bool) → right ≡ false → s - 1 < count - 1 → s - 1 ≡ next_scene right q count
+  one_back right r h = rw (r, e) (omega arith)
 
-  pub back-to-last : (right : Bool) → right ≡ false → count - 1 ≤ s - 1 → count - 1 ≡ next_scene right q count
-  back-to-last right r h = rw (r, e) (omega arith)
+  pub back_to_last : (right : Bool) → right ≡ false → count - 1 ≤ s - 1 → count - 1 ≡ next_scene right q count
+  back_to_last right r h = rw (r, e) (omega arith)
 
 pub at_place : (q : Place) (s i : ℕ) → q ≡ place.At s → eqb s i ≡ is_at q i
 at_place q s i e = rw e
@@ -268,21 +268,21 @@ module _ (l k : Lamps) (same : k.flash ≡ l.flash) where
   same_home : (r : Rig) (home : Level) (m : Moves) → IsHome home r l m → IsHome home r k m
   same_home r home m h = rw same h
 
-  pub same-note : has_note l.flash ≡ true → has_note k.flash ≡ true
-  same-note h = rw same h
+  pub same_note : has_note l.flash ≡ true → has_note k.flash ≡ true
+  same_note h = rw same h
 
 -- and the same line
 pub same_line : (answers calls messages : List ℕ) (x y : Io) → x ≡ y → shown answers x calls messages ≡ shown answers y calls messages
 same_line answers calls messages x y e = rw e
 
-pub by-flash : (fader : ℕ) (k j : Lamps) → j ≡ loaded_by fader k → j.flash ≡ k.flash
+pub by_flash : (fader : ℕ) (k j : Lamps) → j ≡ loaded_by fader k → j.flash ≡ k.flash
 unfolding loaded_by
-by-flash fader k j p = ap (λ (x : Lamps). x.flash) p
+by_flash fader k j p = ap (λ (x : Lamps). x.flash) p
 
 module _ (r : Rig) (l : Lamps) (s : List ℕ) (home : Level) (now : Float) (t : Talk) where
-  pub shows-loaded : (i : ℕ) (k : Lamps) (u : Talk) → Shows r l s home now i 8 t (got k u) → ShowsLoaded r l s home now i t (got (paged k true true) u)
+  pub shows_loaded : (i : ℕ) (k : Lamps) (u : Talk) → Shows r l s home now i 8 t (got k u) → ShowsLoaded r l s home now i t (got (paged k true true) u)
   unfolding next
-  shows-loaded i k u f m saved h = rw (← f m h)
+  shows_loaded i k u f m saved h = rw (← f m h)
 
   module _ (i : ℕ) (saved : Bool) (q : Place) (a : q ≡ scene_at r.here.bank l) (b : Bool) (at : b ≡ is_at q i) where
     pub at-end : (x : Paged) (v : Talk) → b ≡ true → x ≡ paged l false saved → v ≡ t → PagesTo r l s home now i saved t (got x v)
@@ -290,18 +290,18 @@ module _ (r : Rig) (l : Lamps) (s : List ℕ) (home : Level) (now : Float) (t : 
 
     -- the load left k, and the line u
     module _ (e : b ≡ false) (k : Lamps) (ok : Bool) (u : Talk) (g : got (loaded k ok) u ≡ load_scene_at r s i l t) where
-      pub cannot-load : (x : Paged) (v : Talk) → not ok ≡ true → x ≡ paged k false saved → v ≡ u → PagesTo r l s home now i saved t (got x v)
+      pub cannot_load : (x : Paged) (v : Talk) → not ok ≡ true → x ≡ paged k false saved → v ≡ u → PagesTo r l s home now i saved t (got x v)
       unfolding next
-      cannot-load x v f p y m h = rw (← a, ← at, e, ← g, not-true ok f, p, y)
+      cannot_load x v f p y m h = rw (← a, ← at, e, ← g, not-true ok f, p, y)
 
       pub reaches : (x : Got Paged) → not ok ≡ false → k.flash ≡ l.flash → ShowsLoaded r k s home now i u x → PagesTo r l s home now i saved t x
       unfolding next
       reaches x f same w m h = rw (← a, ← at, e, ← g, not-false ok f) (w m saved (same_home l k same r home m h))
 
   module _ (right : Bool) (names : List ℕ) (u : Talk) (g : got names u ≡ scene_names r.here t) (n : ℕ) (c : n ≡ length names) where
-    pub no-scenes : (x : Paged) (v : Talk) → n ≡ 0 → x ≡ paged l false false → v ≡ u → StepsScene right r l s home now t (got x v)
+    pub no_scenes : (x : Paged) (v : Talk) → n ≡ 0 → x ≡ paged l false false → v ≡ u → StepsScene right r l s home now t (got x v)
     unfolding step_scene next
-    no-scenes x v z p q m h = rw (← g, ← c, eq-eqb n 0 z, p, q)
+    no_scenes x v z p q m h = rw (← g, ← c, eq-eqb n 0 z, p, q)
 
     pub steps : (k : Lamps) (saved : Bool) (v : Talk) (at : Place) (i : ℕ) (x : Got Paged) → (n ≡ 0 → ⊥) → got (started k saved) v ≡ start r.here names l u →
         k.flash ≡ l.flash → at ≡ scene_at r.here.bank k → i ≡ next_scene right at n → PagesTo r k s home now i saved v x → StepsScene right r l s home now t x
@@ -310,11 +310,11 @@ module _ (r : Rig) (l : Lamps) (s : List ℕ) (home : Level) (now : Float) (t : 
 
   -- R n
   module _ (n : ℕ) (k : Lamps) (ok : Bool) (u : Talk) (g : got (loaded k ok) u ≡ load_scene_at r s (n - 1) l t) where
-    pub no-scene : (x : Paged) (v : Talk) → not ok ≡ true → x ≡ paged k false false → v ≡ u → LoadsScene r l s home now n t (got x v)
+    pub no_scene : (x : Paged) (v : Talk) → not ok ≡ true → x ≡ paged k false false → v ≡ u → LoadsScene r l s home now n t (got x v)
     unfolding scene next
-    no-scene x v f p q m h = rw (← g, not-true ok f, p, q)
+    no_scene x v f p q m h = rw (← g, not-true ok f, p, q)
 
     pub loads-scene : (j : Lamps) (x : Got Paged) → not ok ≡ false → k.flash ≡ l.flash → j ≡ loaded_by n k → ShowsLoaded r j s home now (n - 1) u x → LoadsScene r l s home now n t x
     unfolding scene next
     loads-scene j x f same p w m h =
-        rw (← g, not-false ok f, ← p) (w m false (same_home k j (by-flash n k j p) r home m (same_home l k same r home m h)))
+        rw (← g, not-false ok f, ← p) (w m false (same_home k j (by_flash n k j p) r home m (same_home l k same r home m h)))

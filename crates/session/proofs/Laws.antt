@@ -18,7 +18,7 @@ use Rattle.base.specs.BesideLaws as side
 use Rattle.base.specs.KeyedLaws as laws
 use Rattle.lookup.specs.Lookup.{dest_at}
 use Rattle.session.specs.Session.{Turn, turn_at, turns_up_to, is_encoder, wires_to, is_dest, add_to, first_turn, turn, RoomToTurn, Hushed, hushed_at, hushed_up_to, hushed_level, hush, unhush, has_room, same_target, is_target, other_target, seen_strips, strips_or, is_strip, strip_at, no_strip, same_at}
-use Rattle.session.specs.SessionLaws.{sums_in, sums-long, same_sum}
+use Rattle.session.specs.SessionLaws.{sums_in, sums_long, same_sum}
 use Rattle.drivers.specs.declared.Level.TheVariants.{At, Unknown}
 use Rattle.session.specs.declared.Strip.{Strip}
 use Rattle.session.specs.declared.Strips.{Strips}
@@ -31,18 +31,18 @@ no_hushed = record { target = 0; level = nan }
 module _ {A : Type 0} (f : A → Bool) (d : A) (xs : List A) (n i top : ℕ) (long : length xs ≡ top) (within : n ≤ top) (e : i ≡ at f (take n xs)) where
   -- it is there: the count stays
   pub changed : (g : A → A) (y : A) → i < n → (take n (set xs i (g (get_or xs i d))) ≡ change f g y (take n xs)) × (n ≤ top)
-  changed g y h = (laws.change-in f d xs n i e g y (omega arith) h, within)
+  changed g y h = (laws.change_in f d xs n i e g y (omega arith) h, within)
 
   -- it is not there, so that what says that it has a place says that there is one behind
   pub roomy : n ≤ i → pick (any_of f (take n xs)) true (ltb n top) ≡ true → n < top
   roomy h p = ltb-true n top (rw (laws.not_there f d xs n i e (omega arith) h) at p)
 
   -- the same, said of the list that is seen
-  pub seen-roomy : n ≤ i → pick (any_of f (take n xs)) true (ltb (length (take n xs)) top) ≡ true → n < top
-  seen-roomy h p = roomy h (rw (length-take-le n xs (omega arith)) at p)
+  pub seen_roomy : n ≤ i → pick (any_of f (take n xs)) true (ltb (length (take n xs)) top) ≡ true → n < top
+  seen_roomy h p = roomy h (rw (length-take-le n xs (omega arith)) at p)
 
   pub added : (g : A → A) (y : A) → n < top → n ≤ i → (take (n + 1) (set xs n y) ≡ change f g y (take n xs)) × (n + 1 ≤ top)
-  added g y r h = (laws.change-out f d xs n i e g y (omega arith) h, omega arith)
+  added g y r h = (laws.change_out f d xs n i e g y (omega arith) h, omega arith)
 
 -- ── the first `top` of those that pass, each made into another: k written to ts so far, of the first j of xs ──
 module _ {A B : Type 0} (f : A → Bool) (h : A → B) (d : A) (top : ℕ) (ts : List B) (xs : List A) (k j : ℕ) (long : length ts ≡ top) (within : k ≤ top)
@@ -53,29 +53,29 @@ module _ {A B : Type 0} (f : A → Bool) (h : A → B) (d : A) (top : ℕ) (ts :
   abbrev new : List B
   new = map h (pick (f (get_or xs j d)) (get_or xs j d ∷ []) [])
 
-  how-many : k ≡ min top (length made)
-  how-many = sym (length-take-le k ts (omega arith)) ∙ ap length e ∙ length-take top made
+  how_many : k ≡ min top (length made)
+  how_many = sym (length-take-le k ts (omega arith)) ∙ ap length e ∙ length-take top made
 
   one_more : j < length xs → map h (keep f (take (j + 1) xs)) ≡ made ++ new
   one_more l = rw (add-one, laws.keep-more f d xs j l, map-append)
 
-  pub first-yes : k < top → j < length xs → f (get_or xs j d) ≡ true →
+  pub first_yes : k < top → j < length xs → f (get_or xs j d) ≡ true →
       take (k + 1) (set ts k (h (get_or xs j d))) ≡ take top (map h (keep f (take (j + 1) xs)))
-  first-yes s l g =
+  first_yes s l g =
       let x : List B = h (get_or xs j d) ∷ [] in
       let m : k < length ts = omega arith in
-      let n : length made ≡ k = omega (arith, how-many) in
+      let n : length made ≡ k = omega (arith, how_many) in
       let a : take top made ≡ made = take_all top made (omega arith) in
       let b : take top (made ++ x) ≡ made ++ x = take_all top (made ++ x) (omega (arith, length-append made x)) in
       rw (add-one k, take-suc-set, one_more l, g, e, a, b)
 
-  pub first-no : j < length xs → (f (get_or xs j d) && ltb k top) ≡ false → take k ts ≡ take top (map h (keep f (take (j + 1) xs)))
-  first-no l g = rw (one_more l) (go (f (get_or xs j d)) g)
+  pub first_no : j < length xs → (f (get_or xs j d) && ltb k top) ≡ false → take k ts ≡ take top (map h (keep f (take (j + 1) xs)))
+  first_no l g = rw (one_more l) (go (f (get_or xs j d)) g)
     where
       go : (b : Bool) → (b && ltb k top) ≡ false → take k ts ≡ take top (made ++ map h (pick b (get_or xs j d ∷ []) []))
       go true q =
           let n : top ≤ k = ltb-false k top q in
-          rw (take-append-le top made (h (get_or xs j d) ∷ []) (omega (arith, how-many))) e
+          rw (take-append-le top made (h (get_or xs j d) ∷ []) (omega (arith, how_many))) e
       go false q = rw append-nil e
 
 -- ── targets and levels, side by side ──
@@ -86,19 +86,19 @@ module _ (target : ℕ) (ts : List ℕ) (ls : List Float) (n i : ℕ) (lt : leng
   abbrev pairs : List Hushed
   pairs = beside hushed_at ts ls
 
-  pairs-long : length pairs ≡ 256
-  pairs-long = side.beside-length hushed_at ts ls (omega arith) ∙ lt
+  pairs_long : length pairs ≡ 256
+  pairs_long = side.beside-length hushed_at ts ls (omega arith) ∙ lt
 
   same_place : i ≡ at (is_target target) (take n pairs)
   same_place = side.beside-place hushed_at (is_target target) (same_target target) (λ x y. refl) ts ls (omega arith) n i (omega arith) e
 
-  pub level-there : i < n → hushed_level target (hushed_up_to n ts ls) ≡ At (get_or ls i nan)
+  pub level_there : i < n → hushed_level target (hushed_up_to n ts ls) ≡ At (get_or ls i nan)
   unfolding hushed_level
-  level-there h = rw (side.beside-take hushed_at n ts ls, laws.found (is_target target) no_hushed pairs n i same_place (omega (arith, pairs-long)) h, side.beside-get_or hushed_at 0 nan ts ls i (omega arith))
+  level_there h = rw (side.beside-take hushed_at n ts ls, laws.found (is_target target) no_hushed pairs n i same_place (omega (arith, pairs_long)) h, side.beside-get_or hushed_at 0 nan ts ls i (omega arith))
 
-  pub level-missing : n ≤ i → hushed_level target (hushed_up_to n ts ls) ≡ Unknown
+  pub level_missing : n ≤ i → hushed_level target (hushed_up_to n ts ls) ≡ Unknown
   unfolding hushed_level
-  level-missing h = rw (side.beside-take hushed_at n ts ls, laws.not_found (is_target target) no_hushed pairs n i same_place (omega (arith, pairs-long)) h)
+  level_missing h = rw (side.beside-take hushed_at n ts ls, laws.not_found (is_target target) no_hushed pairs n i same_place (omega (arith, pairs_long)) h)
 
   -- the place that is written lies within the array
   pub place-within : has_room target (take n ts) ≡ true → i < 256
@@ -109,21 +109,21 @@ module _ (target : ℕ) (ts : List ℕ) (ls : List Float) (n i : ℕ) (lt : leng
       go true q = let h : i < n = ltb-true i n q in omega arith
       go false q =
           let h : n ≤ i = ltb-false i n q in
-          let m : n < 256 = seen-roomy (same_target target) 0 ts n i 256 lt within e h r in
-          omega (arith, laws.found-le (same_target target) 0 ts n i e (omega arith))
+          let m : n < 256 = seen_roomy (same_target target) 0 ts n i 256 lt within e h r in
+          omega (arith, laws.found_le (same_target target) 0 ts n i e (omega arith))
 
-  pub hushed-there : (v : Float) → i < n → hushed_up_to n (set ts i target) (set ls i v) ≡ hush target v (hushed_up_to n ts ls)
+  pub hushed_there : (v : Float) → i < n → hushed_up_to n (set ts i target) (set ls i v) ≡ hush target v (hushed_up_to n ts ls)
   unfolding hush
-  hushed-there v h =
+  hushed_there v h =
       rw (side.beside-take hushed_at n (set ts i target) (set ls i v), side.beside-set hushed_at ts ls i target v, side.beside-take hushed_at n ts ls)
-      (laws.change-in (is_target target) no_hushed pairs n i same_place (λ z. hushed_at target v) (hushed_at target v) (omega (arith, pairs-long)) h)
+      (laws.change_in (is_target target) no_hushed pairs n i same_place (λ z. hushed_at target v) (hushed_at target v) (omega (arith, pairs_long)) h)
 
-  pub hushed-behind : (v : Float) → n ≤ i → i < 256 → hushed_up_to (n + 1) (set ts i target) (set ls i v) ≡ hush target v (hushed_up_to n ts ls)
+  pub hushed_behind : (v : Float) → n ≤ i → i < 256 → hushed_up_to (n + 1) (set ts i target) (set ls i v) ≡ hush target v (hushed_up_to n ts ls)
   unfolding hush
-  hushed-behind v h m =
-      let q : i ≡ n = omega (arith, laws.found-le (same_target target) 0 ts n i e (omega arith)) in
+  hushed_behind v h m =
+      let q : i ≡ n = omega (arith, laws.found_le (same_target target) 0 ts n i e (omega arith)) in
       rw (q, side.beside-take hushed_at (n + 1) (set ts n target) (set ls n v), side.beside-set hushed_at ts ls n target v, side.beside-take hushed_at n ts ls)
-      (laws.change-out (is_target target) no_hushed pairs n i same_place (λ z. hushed_at target v) (hushed_at target v) (omega (arith, pairs-long)) h)
+      (laws.change_out (is_target target) no_hushed pairs n i same_place (λ z. hushed_at target v) (hushed_at target v) (omega (arith, pairs_long)) h)
 
 -- one target goes: of the first j, those that stay are the first k, and what is behind is as it was
 pub record Closing (target : ℕ) (ts₀ : List ℕ) (ls₀ : List Float) (ts : List ℕ) (ls : List Float) (k j : ℕ) : Type 0 where
@@ -135,9 +135,9 @@ pub record Closing (target : ℕ) (ts₀ : List ℕ) (ls₀ : List Float) (ts : 
   pub targets_left : (i : ℕ) → j ≤ i → get_or ts i 0 ≡ get_or ts₀ i 0
   pub levels_left : (i : ℕ) → j ≤ i → get_or ls i nan ≡ get_or ls₀ i nan
 
-pub closing-none : (target : ℕ) (ts : List ℕ) (ls : List Float) → length ts ≡ 256 → length ls ≡ 256 → Closing target ts ls ts ls 0 0
+pub closing_none : (target : ℕ) (ts : List ℕ) (ls : List Float) → length ts ≡ 256 → length ls ≡ 256 → Closing target ts ls ts ls 0 0
 unfolding unhush
-closing-none target ts ls lt ll =
+closing_none target ts ls lt ll =
     record {
       targets_were = lt;
       levels_were = ll;
@@ -156,39 +156,39 @@ module _ (target : ℕ) (ts₀ : List ℕ) (ls₀ : List Float) (ts : List ℕ) 
   abbrev are : List Hushed
   are = beside hushed_at ts ls
 
-  was-long : length was ≡ 256
-  was-long = side.beside-length hushed_at ts₀ ls₀ (s.targets_were ∙ sym s.levels_were) ∙ s.targets_were
+  was_long : length was ≡ 256
+  was_long = side.beside-length hushed_at ts₀ ls₀ (s.targets_were ∙ sym s.levels_were) ∙ s.targets_were
 
-  are-long : length are ≡ 256
-  are-long = side.beside-length hushed_at ts ls (s.targets_long ∙ sym s.levels_long) ∙ s.targets_long
+  are_long : length are ≡ 256
+  are_long = side.beside-length hushed_at ts ls (s.targets_long ∙ sym s.levels_long) ∙ s.targets_long
 
   kept : take k are ≡ keep (other_target target) (take j was)
   unfolding unhush
   kept = sym (side.beside-take hushed_at k ts ls) ∙ s.so_far ∙ ap (keep (other_target target)) (side.beside-take hushed_at j ts₀ ls₀)
 
-  the-next : get_or was j no_hushed ≡ hushed_at (get_or ts j 0) (get_or ls j nan)
-  the-next = rw (s.targets_left j (omega arith), s.levels_left j (omega arith)) (side.beside-get_or hushed_at 0 nan ts₀ ls₀ j (s.targets_were ∙ sym s.levels_were))
+  the_next : get_or was j no_hushed ≡ hushed_at (get_or ts j 0) (get_or ls j nan)
+  the_next = rw (s.targets_left j (omega arith), s.levels_left j (omega arith)) (side.beside-get_or hushed_at 0 nan ts₀ ls₀ j (s.targets_were ∙ sym s.levels_were))
 
-  pub closing-yes : eqb (get_or ts j 0) target ≡ false → Closing target ts₀ ls₀ (set ts k (get_or ts j 0)) (set ls k (get_or ls j nan)) (k + 1) (j + 1)
+  pub closing_yes : eqb (get_or ts j 0) target ≡ false → Closing target ts₀ ls₀ (set ts k (get_or ts j 0)) (set ls k (get_or ls j nan)) (k + 1) (j + 1)
   unfolding unhush
-  closing-yes g =
-      let o : other_target target (get_or was j no_hushed) ≡ true = rw (the-next, g) in
+  closing_yes g =
+      let o : other_target target (get_or was j no_hushed) ≡ true = rw (the_next, g) in
       record {
         targets_were = s.targets_were;
         levels_were = s.levels_were;
         targets_long = length-set ts k (get_or ts j 0) ∙ s.targets_long;
         levels_long = length-set ls k (get_or ls j nan) ∙ s.levels_long;
         so_far =
-            rw (side.beside-take hushed_at (k + 1) (set ts k (get_or ts j 0)) (set ls k (get_or ls j nan)), side.beside-set hushed_at ts ls k (get_or ts j 0) (get_or ls j nan), ← the-next, side.beside-take hushed_at (j + 1) ts₀ ls₀)
-            (laws.keep-yes (other_target target) no_hushed are was k j kept (omega (arith, are-long)) (omega (arith, was-long)) o);
+            rw (side.beside-take hushed_at (k + 1) (set ts k (get_or ts j 0)) (set ls k (get_or ls j nan)), side.beside-set hushed_at ts ls k (get_or ts j 0) (get_or ls j nan), ← the_next, side.beside-take hushed_at (j + 1) ts₀ ls₀)
+            (laws.keep_yes (other_target target) no_hushed are was k j kept (omega (arith, are_long)) (omega (arith, was_long)) o);
         targets_left = λ i h. get_or-set_other ts k i (get_or ts j 0) 0 (λ q. omega arith) ∙ s.targets_left i (omega arith);
         levels_left = λ i h. get_or-set_other ls k i (get_or ls j nan) nan (λ q. omega arith) ∙ s.levels_left i (omega arith);
       }
 
-  pub closing-no : eqb (get_or ts j 0) target ≡ true → Closing target ts₀ ls₀ ts ls k (j + 1)
+  pub closing_no : eqb (get_or ts j 0) target ≡ true → Closing target ts₀ ls₀ ts ls k (j + 1)
   unfolding unhush
-  closing-no g =
-      let o : other_target target (get_or was j no_hushed) ≡ false = rw (the-next, g) in
+  closing_no g =
+      let o : other_target target (get_or was j no_hushed) ≡ false = rw (the_next, g) in
       record {
         targets_were = s.targets_were;
         levels_were = s.levels_were;
@@ -196,14 +196,14 @@ module _ (target : ℕ) (ts₀ : List ℕ) (ls₀ : List Float) (ts : List ℕ) 
         levels_long = s.levels_long;
         so_far =
             rw (side.beside-take hushed_at k ts ls, side.beside-take hushed_at (j + 1) ts₀ ls₀)
-            (laws.keep-no (other_target target) no_hushed are was k j kept (omega (arith, was-long)) o);
+            (laws.keep_no (other_target target) no_hushed are was k j kept (omega (arith, was_long)) o);
         targets_left = λ i h. s.targets_left i (omega arith);
         levels_left = λ i h. s.levels_left i (omega arith);
       }
 
-pub closing-done : (target : ℕ) (ts₀ : List ℕ) (ls₀ : List Float) (ts : List ℕ) (ls : List Float) (k j : ℕ) → Closing target ts₀ ls₀ ts ls k j →
+pub closing_done : (target : ℕ) (ts₀ : List ℕ) (ls₀ : List Float) (ts : List ℕ) (ls : List Float) (k j : ℕ) → Closing target ts₀ ls₀ ts ls k j →
     (n : ℕ) → j ≤ n → n ≤ j → hushed_up_to k ts ls ≡ unhush target (hushed_up_to n ts₀ ls₀)
-closing-done target ts₀ ls₀ ts ls k j s n h l =
+closing_done target ts₀ ls₀ ts ls k j s n h l =
     let q : j ≡ n = omega arith in
     subst (λ (m : ℕ). hushed_up_to k ts ls ≡ unhush target (hushed_up_to m ts₀ ls₀)) q s.so_far
 
@@ -218,32 +218,32 @@ module _ (p ks : List ℕ) (ns : List ℤ) (n k i : ℕ) (delta : ℤ) (lk : len
   same : i ≡ at (is_dest (dest_at p k)) (take n sums)
   same = same_sum p ks ns lk ln n i (dest_at p k) room.count e
 
-  pub sum-there : i < n → turns_up_to p n ks (set ns i (get_or ns i (pos 0) +ℤ delta)) ≡ turn (dest_at p k) delta (turns_up_to p n ks ns)
+  pub sum_there : i < n → turns_up_to p n ks (set ns i (get_or ns i (pos 0) +ℤ delta)) ≡ turn (dest_at p k) delta (turns_up_to p n ks ns)
   unfolding turn
-  sum-there h =
+  sum_there h =
       let v : ℤ = get_or ns i (pos 0) +ℤ delta in
       let q : beside (turn_at p) ks (set ns i v) ≡ set sums i (add_to delta (get_or sums i (turn_at p 0 (pos 0)))) =
       ap (λ l. beside (turn_at p) l (set ns i v)) (sym (set-get_or ks i 0))
       ∙ side.beside-set (turn_at p) ks ns i (get_or ks i 0) v
       ∙ ap (λ s. set sums i (add_to delta s)) (sym (side.beside-get_or (turn_at p) 0 (pos 0) ks ns i (omega arith))) in
       rw (side.beside-take (turn_at p) n ks (set ns i v), q, side.beside-take (turn_at p) n ks ns)
-      (laws.change-in (is_dest (dest_at p k)) (turn_at p 0 (pos 0)) sums n i same (add_to delta) (first_turn (dest_at p k) delta) (omega (arith, sums-long p ks ns lk ln, room.count)) h)
+      (laws.change_in (is_dest (dest_at p k)) (turn_at p 0 (pos 0)) sums n i same (add_to delta) (first_turn (dest_at p k) delta) (omega (arith, sums_long p ks ns lk ln, room.count)) h)
 
   -- it is not there: its place is behind the others, within the array
   pub at-end : n ≤ i → (i ≡ n) × (n < 136)
   at-end h = (
-    omega (arith, laws.found-le (wires_to p (dest_at p k)) 0 ks n i e (omega (arith, room.count))),
+    omega (arith, laws.found_le (wires_to p (dest_at p k)) 0 ks n i e (omega (arith, room.count))),
     roomy (wires_to p (dest_at p k)) 0 ks n i 136 lk room.count e h room.place,
   )
 
-  pub sum-behind : n ≤ i → turns_up_to p (n + 1) (set ks i k) (set ns i delta) ≡ turn (dest_at p k) delta (turns_up_to p n ks ns)
+  pub sum_behind : n ≤ i → turns_up_to p (n + 1) (set ks i k) (set ns i delta) ≡ turn (dest_at p k) delta (turns_up_to p n ks ns)
   unfolding turn
-  sum-behind h =
+  sum_behind h =
       rw ((at-end h).0, side.beside-take (turn_at p) (n + 1) (set ks n k) (set ns n delta), side.beside-set (turn_at p) ks ns n k delta, side.beside-take (turn_at p) n ks ns)
-      (laws.change-out (is_dest (dest_at p k)) (turn_at p 0 (pos 0)) sums n i same (add_to delta) (first_turn (dest_at p k) delta) (omega (arith, sums-long p ks ns lk ln, (at-end h).1)) h)
+      (laws.change_out (is_dest (dest_at p k)) (turn_at p 0 (pos 0)) sums n i same (add_to delta) (first_turn (dest_at p k) delta) (omega (arith, sums_long p ks ns lk ln, (at-end h).1)) h)
 
-  pub encoders-behind : n ≤ i → all_of (is_encoder p) (take (n + 1) (set ks i k)) ≡ true
-  encoders-behind h =
+  pub encoders_behind : n ≤ i → all_of (is_encoder p) (take (n + 1) (set ks i k)) ≡ true
+  encoders_behind h =
       let m : n < length ks = omega (arith, (at-end h).1) in
       rw ((at-end h).0, add-one)
       (laws.every_more (is_encoder p) 0 (set ks n k) n (lt-length-set ks n k m) (rw (take-set-le n ks n k (omega arith)) room.encoders) (rw (get_or-set_same ks n k 0 m) room.encoder))
@@ -255,18 +255,18 @@ looked number s = strip_at number (strips_or (seen_strips s))
 -- what a search among the first n of a bank's strips shows of the strip of that number
 module _ (s : Strips) (number n i : ℕ) (long : length s.list ≡ 8) (within : n ≤ 8) (known : take n s.list ≡ strips_or (seen_strips s))
     (e : i ≡ at (is_strip number) (take n s.list)) where
-  pub strip-there : i < n → looked number s ≡ some (get_or s.list i no_strip)
+  pub strip_there : i < n → looked number s ≡ some (get_or s.list i no_strip)
   unfolding strip_at
-  strip-there h = rw (← known) (laws.found (is_strip number) no_strip s.list n i e (omega arith) h)
+  strip_there h = rw (← known) (laws.found (is_strip number) no_strip s.list n i e (omega arith) h)
 
-  pub strip-missing : n ≤ i → looked number s ≡ none
+  pub strip_missing : n ≤ i → looked number s ≡ none
   unfolding strip_at
-  strip-missing h = rw (← known) (laws.not_found (is_strip number) no_strip s.list n i e (omega arith) h)
+  strip_missing h = rw (← known) (laws.not_found (is_strip number) no_strip s.list n i e (omega arith) h)
 
   -- where the other list lacks the number
-  pub both-missing : leb n i ≡ same_at none (looked number s)
-  both-missing = go (leb n i) refl
+  pub both_missing : leb n i ≡ same_at none (looked number s)
+  both_missing = go (leb n i) refl
     where
       go : (b : Bool) → leb n i ≡ b → b ≡ same_at none (looked number s)
-      go true q = rw (strip-missing (leb-true n i q))
-      go false q = rw (strip-there (leb-false n i q))
+      go true q = rw (strip_missing (leb-true n i q))
+      go false q = rw (strip_there (leb-false n i q))

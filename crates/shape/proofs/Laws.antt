@@ -12,8 +12,8 @@ use borrow.Author.Tests.{le-leb, lt-leb}
 use Rattle.base.specs.Range.{every}
 use Rattle.base.specs.Keyed.{at, all_of, no_twice}
 use Rattle.base.specs.KeyedLaws as laws
-use Rattle.base.specs.Pigeon.{left-of, right_of}
-use Rattle.base.specs.BesideLaws.{beside-all, beside-once}
+use Rattle.base.specs.Pigeon.{left_of_lem, right_of}
+use Rattle.base.specs.BesideLaws.{beside-all, beside_once}
 use Rattle.session.specs.Session.{turn_at, is_encoder, same_turn}
 use Rattle.session.specs.declared.Strips.{Strips}
 use Rattle.session.specs.declared.Turns.{Turns}
@@ -34,15 +34,15 @@ pub done : {A : Type 0} (f : List A → Bool) (xs : List A) (i n : ℕ) → i �
 done f xs i n h l e = let q : i ≡ n = omega arith in subst (λ (m : ℕ). true ≡ f (take m xs)) q (sym e)
 
 -- of the first n records, which are encoders', the first i are so
-pub first-encoders : (p ks : List ℕ) (i n : ℕ) → i ≤ n → all_of (is_encoder p) (take n ks) ≡ true → all_of (is_encoder p) (take i ks) ≡ true
+pub first_encoders : (p ks : List ℕ) (i n : ℕ) → i ≤ n → all_of (is_encoder p) (take n ks) ≡ true → all_of (is_encoder p) (take i ks) ≡ true
 unfolding all_of
-first-encoders p [] zero n h e = refl
-first-encoders p [] (suc i) n h e = refl
-first-encoders p (k ∷ ks) zero n h e = refl
-first-encoders p (k ∷ ks) (suc i) zero h e = absurd (omega arith)
-first-encoders p (k ∷ ks) (suc i) (suc n) h e =
-    rw (left-of (is_encoder p k) (all_of (is_encoder p) (take n ks)) e)
-    (first-encoders p ks i n (omega arith) (right_of (is_encoder p k) (all_of (is_encoder p) (take n ks)) e))
+first_encoders p [] zero n h e = refl
+first_encoders p [] (suc i) n h e = refl
+first_encoders p (k ∷ ks) zero n h e = refl
+first_encoders p (k ∷ ks) (suc i) zero h e = absurd (omega arith)
+first_encoders p (k ∷ ks) (suc i) (suc n) h e =
+    rw (left_of_lem (is_encoder p k) (all_of (is_encoder p) (take n ks)) e)
+    (first_encoders p ks i n (omega arith) (right_of (is_encoder p k) (all_of (is_encoder p) (take n ks)) e))
 
 -- A list of at most top, each of which passes the test and no two of which are the same. The code tests the i-th, then holds it against each before it.
 module _ {A : Type 0} (fit : A → Bool) (same : A → A → Bool) (d : A) (xs : List A) where
@@ -60,8 +60,8 @@ module _ {A : Type 0} (fit : A → Bool) (same : A → A → Bool) (d : A) (xs :
   abbrev tested : ℕ → ℕ → Bool
   tested top n = every (leb n top ∷ all_of fit (take n xs) ∷ no_twice same (take n xs) ∷ [])
 
-  pub fine-none : Fine 0
-  fine-none = (laws.every-none fit d xs, laws.once-none same d xs)
+  pub fine_none : Fine 0
+  fine_none = (laws.every-none fit d xs, laws.once_none same d xs)
 
   pub new_none : (i : ℕ) → New i 0
   new_none i = laws.at_none (same_as i) d xs
@@ -82,23 +82,23 @@ module _ {A : Type 0} (fit : A → Bool) (same : A → A → Bool) (d : A) (xs :
 
   pub unfit : (top n i : ℕ) → n ≤ top → n ≤ length xs → i < n → fit (get_or xs i d) ≡ false → false ≡ tested top n
   unfolding every
-  unfit top n i t l h g = rw (le-leb n top t, laws.every-stop fit d xs i n h l g)
+  unfit top n i t l h g = rw (le-leb n top t, laws.every_stop fit d xs i n h l g)
 
   pub twice : (top n i j : ℕ) → n ≤ length xs → i < n → j < i → New i j → same (get_or xs j d) (get_or xs i d) ≡ true → false ≡ tested top n
   unfolding every
   twice top n i j l h k e g =
       let m : i ≤ length xs = omega arith in
       let q : at (same_as i) (take i xs) ≡ j = laws.at-hit (same_as i) d xs j i k m e g in
-      rw (laws.once-stop same d xs i n h l (laws.is-there (same_as i) d xs i j (sym q) m k)) (last-no (leb n top) (all_of fit (take n xs)))
+      rw (laws.once_stop same d xs i n h l (laws.is_there (same_as i) d xs i j (sym q) m k)) (last_no (leb n top) (all_of fit (take n xs)))
     where
-      last-no : (a b : Bool) → false ≡ (a && (b && false))
-      last-no true true = refl
-      last-no true false = refl
-      last-no false b = refl
+      last_no : (a b : Bool) → false ≡ (a && (b && false))
+      last_no true true = refl
+      last_no true false = refl
+      last_no false b = refl
 
-  pub all-fine : (top n i : ℕ) → n ≤ top → i ≤ n → n ≤ i → Fine i → true ≡ tested top n
+  pub all_fine : (top n i : ℕ) → n ≤ top → i ≤ n → n ≤ i → Fine i → true ≡ tested top n
   unfolding every
-  all-fine top n i t h l e = rw (le-leb n top t, ← done (all_of fit) xs i n h l e.0, ← done (no_twice same) xs i n h l e.1)
+  all_fine top n i t h l e = rw (le-leb n top t, ← done (all_of fit) xs i n h l e.0, ← done (no_twice same) xs i n h l e.1)
 
 -- the sums, of which the code tests the numbers by themselves and the records by themselves
 pub sums-tested : (p : List ℕ) (t : Turns) (x y : Bool) → length t.records ≡ 136 → length t.sums ≡ 136 → t.count ≤ 136 →
@@ -114,7 +114,7 @@ sums-tested p t x y lk ln h e f g =
       le-leb t.count 136 h,
       e,
       beside-all (turn_at p) good_turn in_range (λ k n. refl) ks ns (omega arith),
-      beside-once (turn_at p) same_turn (same_wire p) (λ j k m n. refl) ks ns (omega arith),
+      beside_once (turn_at p) same_turn (same_wire p) (λ j k m n. refl) ks ns (omega arith),
       f,
       g,
     )

@@ -3,9 +3,9 @@ use Rattle.std.specs.Prelude.{◌≡◌, refl, length}
 use Rattle.session.specs.declared.Session.{Session}
 use Rattle.shape.specs.Parts.{HasParts}
 
-pub own-parts : (s : Session) → length s.silenced.levels ≡ 256 →
+pub own_parts : (s : Session) → length s.silenced.levels ≡ 256 →
     HasParts s.bank s.line s.live s.turns s.silenced.targets s.silenced.count s.lamps.flash s
-own-parts s h =
+own_parts s h =
     record {
       bank = refl;
       line = refl;

@@ -52,8 +52,8 @@ module _ {A : Type 0} (f : A → Bool) (y : A) where
 
 module _ (m h : Bool) (target : ℕ) (ts l : List ℕ) (e : h ≡ is_hushed target ts) where
   -- it has a mute, or is silenced: none joins
-  pub none-joins : (m || h) ≡ true → l ≡ add_target m target ts l
-  none-joins q = go m q
+  pub none_joins : (m || h) ≡ true → l ≡ add_target m target ts l
+  none_joins q = go m q
     where
       go : (b : Bool) → (b || h) ≡ true → l ≡ add_target b target ts l
       go true k = refl
@@ -76,8 +76,8 @@ module _ (itself there : Bool) (d : Destination) (ts l : List ℕ) where
       go false true k = absurd (true≢false (sym k))
       go false false k = refl
 
-  pub taken-up : (itself || not there) ≡ false → adding (found.To d) ts l ≡ adding (pick itself found.Nothing (pick there (found.To d) found.Nothing)) ts l
-  taken-up q = go itself there q
+  pub taken_up : (itself || not there) ≡ false → adding (found.To d) ts l ≡ adding (pick itself found.Nothing (pick there (found.To d) found.Nothing)) ts l
+  taken_up q = go itself there q
     where
       go : (a b : Bool) → (a || not b) ≡ false → adding (found.To d) ts l ≡ adding (pick a found.Nothing (pick b (found.To d) found.Nothing)) ts l
       go true b k = absurd (true≢false k)
@@ -101,9 +101,9 @@ unfolding solo_adds
 one_more of fader ts n = ap (solo_adds of fader ts) (sym (add-one n))
 
 -- what the faders 1 to n add depends on no other
-pub same-adds : (f g : ℕ → Found) (fader : ℕ) (ts : List ℕ) (n : ℕ) → ((k : ℕ) → 1 ≤ k → k ≤ n → f k ≡ g k) →
+pub same_adds : (f g : ℕ → Found) (fader : ℕ) (ts : List ℕ) (n : ℕ) → ((k : ℕ) → 1 ≤ k → k ≤ n → f k ≡ g k) →
     solo_adds f fader ts n ≡ solo_adds g fader ts n
 unfolding solo_adds
-same-adds f g fader ts zero e = refl
-same-adds f g fader ts (suc n) e =
-    rw (e (n + 1) (omega arith) (omega arith), same-adds f g fader ts n (λ k a b. e k a (omega arith)))
+same_adds f g fader ts zero e = refl
+same_adds f g fader ts (suc n) e =
+    rw (e (n + 1) (omega arith) (omega arith), same_adds f g fader ts n (λ k a b. e k a (omega arith)))

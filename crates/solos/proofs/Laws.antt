@@ -12,7 +12,7 @@ use lib.Seq.{get_or-set_same, get_or-set_other}
 use borrow.Author.Tests.{not-false, leb-true, leb-false}
 use Rattle.base.specs.Choice.{pick}
 use Rattle.base.specs.Keyed.{change, no_twice}
-use Rattle.base.specs.KeyedLaws.{change-longer}
+use Rattle.base.specs.KeyedLaws.{change_longer}
 use Rattle.lookup.specs.declared.Destination.{Destination}
 use Rattle.lookup.specs.declared.Found.{Found}
 use Rattle.lookup.specs.declared.Found.TheVariants as found
@@ -24,10 +24,10 @@ use Rattle.definition.specs.Rig.{Rig, destination}
 use Rattle.definition.specs.Levels.{kept_by, has_mute}
 use Rattle.definition.specs.Lamps.{push_state}
 use Rattle.definition.specs.Muting.{Soloed, in_group, peer, off_to, solo_off, note_mutes, note_if, on_to, solo_on, solo_if, is_same, add_target, adding, solo_adds, adds_to, added_by_solo}
-use Rattle.definition.specs.SilencingLaws.{Within, Covered, grown, any-both, adding-covers, adding-more, solo_on-so, room_within, once-keys}
+use Rattle.definition.specs.SilencingLaws.{Within, Covered, grown, any_both, adding_covers, adding-more, solo_on_so, room_within, once_keys}
 use Rattle.mutes.specs.Held.{room_for}
-use Rattle.mutes.specs.HeldLaws.{room-for}
-use Rattle.solos.proofs.AddsLaws.{peer-at, same-adds}
+use Rattle.mutes.specs.HeldLaws.{room_for_lem}
+use Rattle.solos.proofs.AddsLaws.{peer-at, same_adds}
 use Rattle.solos.specs.Peers.{found_of, nobody, seen_peers, ArePeers, room_to, soloed_as}
 use Rattle.solos.specs.Turns.{note_to, turned_over}
 use Rattle.solos.specs.declared.peers.Peer.{Peer}
@@ -70,19 +70,19 @@ one-peer r group xs n p x short a e before i low high = go (leb i n) refl
 -- ── off, one fader more ──
 
 module _ (of : ℕ → Found) (l : Lamps) (s : List Hushed) (t : Talk) where
-  pub none-off : got s t ≡ solo_off of l 0 s t
+  pub none_off : got s t ≡ solo_off of l 0 s t
   unfolding solo_off
-  none-off = refl
+  none_off = refl
 
-  pub one-off : (n : ℕ) (k m : List Hushed) (u v : Talk) (f : Found) (was : Bool) → got k u ≡ solo_off of l n s t → f ≡ of (n + 1) →
+  pub one_off : (n : ℕ) (k m : List Hushed) (u v : Talk) (f : Found) (was : Bool) → got k u ≡ solo_off of l n s t → f ≡ of (n + 1) →
       was ≡ was_muted (n + 1) l → got m v ≡ off_to f was k u → got m v ≡ solo_off of l (n + 1) s t
   unfolding solo_off next
-  one-off n k m u v f was a e q b =
+  one_off n k m u v f was a e q b =
       let c : got m v ≡ off_to (of (n + 1)) (was_muted (n + 1) l) k u = b ∙ ap (λ x. off_to x was k u) e ∙ ap (λ x. off_to (of (n + 1)) x k u) q in
       rw (add-one n, ← a) c
 
-  pub all-off : (n : ℕ) (x : Got (List Hushed)) → n ≡ 16 → x ≡ solo_off of l n s t → x ≡ solo_off of l 16 s t
-  all-off n x e a = a ∙ ap (λ m. solo_off of l m s t) e
+  pub all_off : (n : ℕ) (x : Got (List Hushed)) → n ≡ 16 → x ≡ solo_off of l n s t → x ≡ solo_off of l 16 s t
+  all_off n x e a = a ∙ ap (λ m. solo_off of l m s t) e
 
 -- ── what was muted, one fader more ──
 
@@ -110,9 +110,9 @@ module _ (of : ℕ → Found) (ts : List ℕ) (t : Talk) where
 -- ── on, one fader more ──
 
 module _ (of : ℕ → Found) (fader : ℕ) (s : List Hushed) (t : Talk) where
-  pub none-on : got s t ≡ solo_on of fader 0 s t
+  pub none_on : got s t ≡ solo_on of fader 0 s t
   unfolding solo_on
-  none-on = refl
+  none_on = refl
 
   pub one_on : (n : ℕ) (k m : List Hushed) (u v : Talk) (f : Found) → got k u ≡ solo_on of fader n s t → f ≡ of (n + 1) →
       got m v ≡ on_to f (not (eqb (n + 1) fader)) k u → got m v ≡ solo_on of fader (n + 1) s t
@@ -121,35 +121,35 @@ module _ (of : ℕ → Found) (fader : ℕ) (s : List Hushed) (t : Talk) where
       let c : got m v ≡ on_to (of (n + 1)) (not (eqb (n + 1) fader)) k u = b ∙ ap (λ x. on_to x (not (eqb (n + 1) fader)) k u) e in
       rw (add-one n, ← a) c
 
-  pub all-on : (n : ℕ) (x : Got (List Hushed)) → n ≡ 16 → x ≡ solo_on of fader n s t → x ≡ solo_on of fader 16 s t
-  all-on n x e a = a ∙ ap (λ m. solo_on of fader m s t) e
+  pub all_on : (n : ℕ) (x : Got (List Hushed)) → n ≡ 16 → x ≡ solo_on of fader n s t → x ≡ solo_on of fader 16 s t
+  all_on n x e a = a ∙ ap (λ m. solo_on of fader m s t) e
 
 -- ── room for each peer ──
 
-adding-longer : (f : Found) (ts l : List ℕ) → length l ≤ length (adding f ts l)
-adding-longer found.Nothing ts l = omega arith
-adding-longer (found.To d) ts l = go (has_mute d)
+adding_longer : (f : Found) (ts l : List ℕ) → length l ≤ length (adding f ts l)
+adding_longer found.Nothing ts l = omega arith
+adding_longer (found.To d) ts l = go (has_mute d)
   where
     at : (h : Bool) → length l ≤ length (pick h l (change (is_same (kept_by d)) (λ z. z) (kept_by d) l))
     at true = omega arith
-    at false = change-longer (is_same (kept_by d)) (λ z. z) (kept_by d) l
+    at false = change_longer (is_same (kept_by d)) (λ z. z) (kept_by d) l
 
     go : (b : Bool) → length l ≤ length (add_target b (kept_by d) ts l)
     go true = omega arith
     go false = at (is_hushed (kept_by d) ts)
 
 -- more faders add no fewer targets
-adds-longer : (of : ℕ → Found) (fader : ℕ) (ts : List ℕ) (m n : ℕ) → n ≤ m → length (solo_adds of fader ts n) ≤ length (solo_adds of fader ts m)
+adds_longer : (of : ℕ → Found) (fader : ℕ) (ts : List ℕ) (m n : ℕ) → n ≤ m → length (solo_adds of fader ts n) ≤ length (solo_adds of fader ts m)
 unfolding solo_adds
-adds-longer of fader ts zero n h = let e : n ≡ 0 = omega arith in rw e (omega arith)
-adds-longer of fader ts (suc m) n h = go (leb n m) refl (adds-longer of fader ts m n)
+adds_longer of fader ts zero n h = let e : n ≡ 0 = omega arith in rw e (omega arith)
+adds_longer of fader ts (suc m) n h = go (leb n m) refl (adds_longer of fader ts m n)
   where
     go : (b : Bool) → leb n m ≡ b → (n ≤ m → length (solo_adds of fader ts n) ≤ length (solo_adds of fader ts m)) →
         length (solo_adds of fader ts n) ≤ length (solo_adds of fader ts (suc m))
     go true q before =
         let f = pick (eqb (m + 1) fader) found.Nothing (of (m + 1)) in
         let a : length (solo_adds of fader ts n) ≤ length (solo_adds of fader ts m) = before (leb-true n m q) in
-        let b : length (solo_adds of fader ts m) ≤ length (adding f ts (solo_adds of fader ts m)) = adding-longer f ts (solo_adds of fader ts m) in
+        let b : length (solo_adds of fader ts m) ≤ length (adding f ts (solo_adds of fader ts m)) = adding_longer f ts (solo_adds of fader ts m) in
         omega arith
     go false q before =
         let l : m < n = leb-false n m q in
@@ -157,50 +157,50 @@ adds-longer of fader ts (suc m) n h = go (leb n m) refl (adds-longer of fader ts
         rw e (omega arith)
 
 -- a destination that m covers has room, if m is not too long
-room-covered : (m : List ℕ) (k : List Hushed) (d : Destination) → Covered m (found.To d) → Within m k → length m ≤ 256 → room_for d (targets_of k) ≡ true
-room-covered m k d h w few = go (has_mute d) refl
+room_covered : (m : List ℕ) (k : List Hushed) (d : Destination) → Covered m (found.To d) → Within m k → length m ≤ 256 → room_for d (targets_of k) ≡ true
+room_covered m k d h w few = go (has_mute d) refl
   where
     go : (b : Bool) → has_mute d ≡ b → pick b true (has_room (kept_by d) (targets_of k)) ≡ true
     go true e = refl
     go false e = room_within m k (kept_by d) w (h e) few
 
-both-fit : (s : List Hushed) (l : List ℕ) → length s + length l ≤ 256 → length (targets_of s ++ l) ≤ 256
-both-fit s l few =
+both_fit : (s : List Hushed) (l : List ℕ) → length s + length l ≤ 256 → length (targets_of s ++ l) ≤ 256
+both_fit s l few =
     let same : length (targets_of s) ≡ length s = length-map s (λ x. x.target) in
     let long : length (targets_of s ++ l) ≡ length (targets_of s) + length l = length-append (targets_of s) l in
     omega arith
 
 -- k is within those held before and those added so far
-room-step : (s k : List Hushed) (adds : List ℕ) (self : Bool) (f : Found) → Within (targets_of s ++ adds) k →
+room_step : (s k : List Hushed) (adds : List ℕ) (self : Bool) (f : Found) → Within (targets_of s ++ adds) k →
     length s + length (adding (pick self found.Nothing f) (targets_of s) adds) ≤ 256 → room_to f (not self) (targets_of k) ≡ true
-room-step s k adds true f w few = refl
-room-step s k adds false found.Nothing w few = refl
-room-step s k adds false (found.To d) w few =
-    room-covered (targets_of s ++ adding (found.To d) (targets_of s) adds) k d (adding-covers (targets_of s) adds (found.To d))
-    (grown (λ x. any-both (λ y. eqb y x) (targets_of s) adds (adding (found.To d) (targets_of s) adds) (adding-more (targets_of s) adds (found.To d) x)) w)
-    (both-fit s (adding (found.To d) (targets_of s) adds) few)
+room_step s k adds true f w few = refl
+room_step s k adds false found.Nothing w few = refl
+room_step s k adds false (found.To d) w few =
+    room_covered (targets_of s ++ adding (found.To d) (targets_of s) adds) k d (adding_covers (targets_of s) adds (found.To d))
+    (grown (λ x. any_both (λ y. eqb y x) (targets_of s) adds (adding (found.To d) (targets_of s) adds) (adding-more (targets_of s) adds (found.To d) x)) w)
+    (both_fit s (adding (found.To d) (targets_of s) adds) few)
 
 -- of `top` faders, whose targets fit, the next of n has room
-pub room-on : (of : ℕ → Found) (fader top : ℕ) (s : List Hushed) (t : Talk) → no_twice eqb (targets_of s) ≡ true →
+pub room_on : (of : ℕ → Found) (fader top : ℕ) (s : List Hushed) (t : Talk) → no_twice eqb (targets_of s) ≡ true →
     length s + length (solo_adds of fader (targets_of s) top) ≤ 256 → (n : ℕ) → n < top → (k : List Hushed) (u : Talk) →
     got k u ≡ solo_on of fader n s t → (f : Found) → f ≡ of (n + 1) → room_to f (not (eqb (n + 1) fader)) (targets_of k) ≡ true
 unfolding solo_adds
-room-on of fader top s t o few n h k u a f e =
+room_on of fader top s t o few n h k u a f e =
     let ts = targets_of s in
-    let once : no_twice same_hushed s ≡ true = sym (once-keys (λ x. x.target) s) ∙ o in
+    let once : no_twice same_hushed s ≡ true = sym (once_keys (λ x. x.target) s) ∙ o in
     let w : Within (ts ++ solo_adds of fader ts n) k =
-    subst (Within (ts ++ solo_adds of fader ts n)) (sym (ap (λ g. g.value) a)) (solo_on-so s once of fader n t) in
-    let next : length (solo_adds of fader ts (suc n)) ≤ length (solo_adds of fader ts top) = adds-longer of fader ts top (suc n) (omega arith) in
+    subst (Within (ts ++ solo_adds of fader ts n)) (sym (ap (λ g. g.value) a)) (solo_on_so s once of fader n t) in
+    let next : length (solo_adds of fader ts (suc n)) ≤ length (solo_adds of fader ts top) = adds_longer of fader ts top (suc n) (omega arith) in
     let fits : length s + length (adding (pick (eqb (n + 1) fader) found.Nothing (of (n + 1))) ts (solo_adds of fader ts n)) ≤ 256 = omega arith in
     subst (λ x. room_to x (not (eqb (n + 1) fader)) (targets_of k) ≡ true) (sym e)
-    (room-step s k (solo_adds of fader ts n) (eqb (n + 1) fader) (of (n + 1)) w fits)
+    (room_step s k (solo_adds of fader ts n) (eqb (n + 1) fader) (of (n + 1)) w fits)
 
 -- a peer that is to be silenced and has no mute: b is whether it has one, as the code has it
-pub room-to : (p : Peer) (silence b : Bool) (ts : List ℕ) → not p.there ≡ false → b ≡ has_mute p.dest → b ≡ false → silence ≡ true →
+pub room_to_lem : (p : Peer) (silence b : Bool) (ts : List ℕ) → not p.there ≡ false → b ≡ has_mute p.dest → b ≡ false → silence ≡ true →
     room_to (found_of p) silence ts ≡ true → has_room (kept_by p.dest) ts ≡ true
-room-to p silence b ts there e h q r =
+room_to_lem p silence b ts there e h q r =
     let f : found_of p ≡ found.To p.dest = ap (λ x. pick x (found.To p.dest) found.Nothing) (not-false p.there there) in
-    room-for p.dest ts b e h
+    room_for_lem p.dest ts b e h
     (subst (λ x. room_to x true ts ≡ true) f (subst (λ x. room_to (found_of p) x ts ≡ true) q r))
 
 -- ── two tables that agree on the faders 1 to n ──
@@ -209,24 +209,24 @@ module _ (f g : ℕ → Found) where
   abbrev Agree : ℕ → Type 0
   Agree n = (i : ℕ) → 1 ≤ i → i ≤ n → f i ≡ g i
 
-  same-off : (l : Lamps) (n : ℕ) → Agree n → (s : List Hushed) (t : Talk) → solo_off f l n s t ≡ solo_off g l n s t
+  same_off : (l : Lamps) (n : ℕ) → Agree n → (s : List Hushed) (t : Talk) → solo_off f l n s t ≡ solo_off g l n s t
   unfolding solo_off next
-  same-off l zero h s t = refl
-  same-off l (suc n) h s t = rw (same-off l n (λ i a b. h i a (omega arith)) s t, h (n + 1) (omega arith) (omega arith))
+  same_off l zero h s t = refl
+  same_off l (suc n) h s t = rw (same_off l n (λ i a b. h i a (omega arith)) s t, h (n + 1) (omega arith) (omega arith))
 
   same_noted : (ts : List ℕ) (n : ℕ) → Agree n → (l : Lamps) (t : Talk) → note_mutes f ts n l t ≡ note_mutes g ts n l t
   unfolding note_mutes next
   same_noted ts zero h l t = refl
   same_noted ts (suc n) h l t = rw (same_noted ts n (λ i a b. h i a (omega arith)) l t, h (n + 1) (omega arith) (omega arith))
 
-  same-on : (fader n : ℕ) → Agree n → (s : List Hushed) (t : Talk) → solo_on f fader n s t ≡ solo_on g fader n s t
+  same_on : (fader n : ℕ) → Agree n → (s : List Hushed) (t : Talk) → solo_on f fader n s t ≡ solo_on g fader n s t
   unfolding solo_on next
-  same-on fader zero h s t = refl
-  same-on fader (suc n) h s t = rw (same-on fader n (λ i a b. h i a (omega arith)) s t, h (n + 1) (omega arith) (omega arith))
+  same_on fader zero h s t = refl
+  same_on fader (suc n) h s t = rw (same_on fader n (λ i a b. h i a (omega arith)) s t, h (n + 1) (omega arith) (omega arith))
 
-  same-note : (b : Bool) (ts : List ℕ) → Agree 16 → (l : Lamps) (t : Talk) → note_if b f ts l t ≡ note_if b g ts l t
-  same-note true ts h l t = same_noted ts 16 h l t
-  same-note false ts h l t = refl
+  same_note : (b : Bool) (ts : List ℕ) → Agree 16 → (l : Lamps) (t : Talk) → note_if b f ts l t ≡ note_if b g ts l t
+  same_note true ts h l t = same_noted ts 16 h l t
+  same_note false ts h l t = refl
 
 -- ── a solo over the table of its peers ──
 
@@ -238,11 +238,11 @@ module _ (r : Rig) (group : ℕ) (p : Peers) (are : ArePeers r group p) where
   over : (b : Bool) (fader : ℕ) (l : Lamps) (s : List Hushed) (t : Talk) →
       lit (turned_over b (seen_peers p) fader l s t) ≡ solo_if b r group fader l s t
   unfolding next
-  over true fader l s t = rw (same-off (seen_peers p) (peer r group) l 16 are s t)
+  over true fader l s t = rw (same_off (seen_peers p) (peer r group) l 16 are s t)
   over false fader l s t =
       rw (
-        same-note (seen_peers p) (peer r group) (eqb l.soloed 0) (targets_of s) are l t,
-        same-on (seen_peers p) (peer r group) fader 16 are s (note_if (eqb l.soloed 0) (peer r group) (targets_of s) l t).talk,
+        same_note (seen_peers p) (peer r group) (eqb l.soloed 0) (targets_of s) are l t,
+        same_on (seen_peers p) (peer r group) fader 16 are s (note_if (eqb l.soloed 0) (peer r group) (targets_of s) l t).talk,
       )
 
   pub solo-over : (b : Bool) (fader : ℕ) (l : Lamps) (s : List Hushed) (t : Talk) (m : Lamps) (k : List Hushed) (u v : Talk) →
@@ -251,14 +251,14 @@ module _ (r : Rig) (group : ℕ) (p : Peers) (are : ArePeers r group p) where
   solo-over b fader l s t m k u v a ts e q = ap (got (soloed_as m k)) (q ∙ ap (λ x. push_state r m x u) (sym e)) ∙ ap lit a ∙ over b fader l s t
 
 -- what a solo adds, counted over the table. x is what the fader is wired to, as the code has it
-pub room-over : (r : Rig) (fader : ℕ) (x : Found) (d : Destination) (p : Peers) → x ≡ destination r fader → x ≡ found.To d → ArePeers r d.group p →
+pub room_over : (r : Rig) (fader : ℕ) (x : Found) (d : Destination) (p : Peers) → x ≡ destination r fader → x ≡ found.To d → ArePeers r d.group p →
     (l : Lamps) (ts : List ℕ) (n : ℕ) → n + length (added_by_solo r fader l ts) ≤ 256 →
     n + length (pick (eqb l.soloed fader) [] (solo_adds (seen_peers p) fader ts 16)) ≤ 256
 unfolding added_by_solo
-room-over r fader x d p e h are l ts n few =
-    subst (λ y. n + length (pick (eqb l.soloed fader) [] y) ≤ 256) (sym (same-adds (seen_peers p) (peer r d.group) fader ts 16 are))
+room_over r fader x d p e h are l ts n few =
+    subst (λ y. n + length (pick (eqb l.soloed fader) [] y) ≤ 256) (sym (same_adds (seen_peers p) (peer r d.group) fader ts 16 are))
     (subst (λ y. n + length (adds_to y r fader l ts) ≤ 256) (sym e ∙ h) few)
 
 -- another than the soloed fader: b is whether it is the same
-pub room-another : (b : Bool) (n : ℕ) (l : List ℕ) → b ≡ false → n + length (pick b [] l) ≤ 256 → n + length l ≤ 256
-room-another b n l e few = subst (λ x. n + length (pick x [] l) ≤ 256) e few
+pub room_another : (b : Bool) (n : ℕ) (l : List ℕ) → b ≡ false → n + length (pick b [] l) ≤ 256 → n + length l ≤ 256
+room_another b n l e few = subst (λ x. n + length (pick x [] l) ≤ 256) e few

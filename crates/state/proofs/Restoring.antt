@@ -33,15 +33,15 @@ module _ (p s : List ℕ) where
       go true w e = to w e
       go false w e = h
 
-  bank-below : (n bank : ℕ) → bank < bank_count p → restore_bank p s n bank < bank_count p
+  bank_below : (n bank : ℕ) → bank < bank_count p → restore_bank p s n bank < bank_count p
   unfolding restore_bank
-  bank-below zero bank h = h
-  bank-below (suc n) bank h = device-below n (restore_bank p s n bank) (bank-below n bank h)
+  bank_below zero bank h = h
+  bank_below (suc n) bank h = device-below n (restore_bank p s n bank) (bank_below n bank h)
 
   -- ── the flash ──
-  scene-keeps : (k : ℕ) (l : Lamps) → (restore_scene p s k l).flash ≡ l.flash
+  scene_keeps : (k : ℕ) (l : Lamps) → (restore_scene p s k l).flash ≡ l.flash
   unfolding restore_scene scene_to
-  scene-keeps k l = go (eqb (kind_at s k) 2) (bank_named p (name_at s k))
+  scene_keeps k l = go (eqb (kind_at s k) 2) (bank_named p (name_at s k))
     where
       go : (b : Bool) (w : Place) → (pick b (scene_for w (scene_in s k) l) l).flash ≡ l.flash
       go true (At b) = refl
@@ -51,21 +51,21 @@ module _ (p s : List ℕ) where
   scenes-keep : (n : ℕ) (l : Lamps) → (restore_scenes p s n l).flash ≡ l.flash
   unfolding restore_scenes
   scenes-keep zero l = refl
-  scenes-keep (suc n) l = scene-keeps n (restore_scenes p s n l) ∙ scenes-keep n l
+  scenes-keep (suc n) l = scene_keeps n (restore_scenes p s n l) ∙ scenes-keep n l
 
   -- ── the session ──
   module _ (x : Session) (well : well_shaped p x ≡ true) where
-    resumed-well : well_shaped p (resumed p s x) ≡ true
+    resumed_well : well_shaped p (resumed p s x) ≡ true
     unfolding well_shaped every resumed
-    resumed-well =
+    resumed_well =
         let b = ltb-true x.bank (bank_count p) (and_left (ltb x.bank (bank_count p)) _ well) in
-        rw (scenes-keep (saved_count s) x.lamps, lt-ltb _ _ (bank-below (saved_count s) x.bank b)) (and_right (ltb x.bank (bank_count p)) _ well)
+        rw (scenes-keep (saved_count s) x.lamps, lt-ltb _ _ (bank_below (saved_count s) x.bank b)) (and_right (ltb x.bank (bank_count p)) _ well)
 
     -- whether it restores, is declined or need not remember
-    pub restoring-well : well_shaped p (restoring p s x).session ≡ true
+    pub restoring_well : well_shaped p (restoring p s x).session ≡ true
     unfolding restoring
-    restoring-well = go (eqb (restore_refusal p s x) 0 && remember_of p)
+    restoring_well = go (eqb (restore_refusal p s x) 0 && remember_of p)
       where
         go : (b : Bool) → well_shaped p (pick b (resumed p s x) x) ≡ true
-        go true = resumed-well
+        go true = resumed_well
         go false = well

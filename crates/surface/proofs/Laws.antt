@@ -24,35 +24,35 @@ use Rattle.rig.specs.Seen.{mute_if}
 use Rattle.surface.specs.Home.{has_note, IsHome, Finishes, Shows, Plays}
 
 -- a mute that cannot be read counts as off
-pub muted-is : (known muted : Bool) → (known && muted) ≡ or_false (mute_if known muted)
-muted-is true muted = refl
-muted-is false muted = refl
+pub muted_is : (known muted : Bool) → (known && muted) ≡ or_false (mute_if known muted)
+muted_is true muted = refl
+muted_is false muted = refl
 
 -- ── the channels ──
 
 module _ (r : Rig) (l : Lamps) (s : List ℕ) (t : Talk) where
-  pub no-fader : t ≡ push_faders r l s 0 t
+  pub no_fader_lem : t ≡ push_faders r l s 0 t
   unfolding push_faders
-  no-fader = refl
+  no_fader_lem = refl
 
   pub one-fader : (n : ℕ) (u v : Talk) → u ≡ push_faders r l s n t → v ≡ push_fader r l s n u → v ≡ push_faders r l s (n + 1) t
   unfolding push_faders
   one-fader n u v a b = rw (add-one n, ← a) b
 
-  pub all-faders : (n : ℕ) (u : Talk) → n ≡ 8 → u ≡ push_faders r l s n t → u ≡ push_state r l s t
+  pub all_faders : (n : ℕ) (u : Talk) → n ≡ 8 → u ≡ push_faders r l s n t → u ≡ push_state r l s t
   unfolding push_state
-  all-faders n u e a = rw (← e) a
+  all_faders n u e a = rw (← e) a
 
 -- ── the phases ──
 
 module _ (f : Flash) (t : Talk) where
-  pub no-phase : t ≡ phases f (f.sent - f.sent) t
+  pub no_phase : t ≡ phases f (f.sent - f.sent) t
   unfolding phases
-  no-phase = let e : f.sent - f.sent ≡ 0 = omega arith in rw e
+  no_phase = let e : f.sent - f.sent ≡ 0 = omega arith in rw e
 
-  pub one-phase : (n : ℕ) (u v : Talk) → f.sent ≤ n → u ≡ phases f (n - f.sent) t → v ≡ phase_led f n u → v ≡ phases f ((n + 1) - f.sent) t
+  pub one_phase : (n : ℕ) (u v : Talk) → f.sent ≤ n → u ≡ phases f (n - f.sent) t → v ≡ phase_led f n u → v ≡ phases f ((n + 1) - f.sent) t
   unfolding phases
-  one-phase n u v l a b =
+  one_phase n u v l a b =
       let e : (n + 1) - f.sent ≡ suc (n - f.sent) = omega arith in
       let k : f.sent + (n - f.sent) ≡ n = omega arith in
       rw (e, k, ← a) b
@@ -63,20 +63,20 @@ module _ (f : Flash) (t : Talk) where
   all-phases n due u e a = rw (← e) a
 
 -- the flash with its phases up to due sent
-pub sent-more : (f : Flash) (due : ℕ) → f.sent < due →
+pub sent_more : (f : Flash) (due : ℕ) → f.sent < due →
     record { on = f.on; start = f.start; row = f.row; base = f.base; column = f.column; sent = due } ≡ sent_up_to due f
-sent-more f due l = let e : max f.sent due ≡ due = omega arith in rw e
+sent_more f due l = let e : max f.sent due ≡ due = omega arith in rw e
 
-pub sent-before : (f : Flash) (due : ℕ) → due ≤ f.sent → f ≡ sent_up_to due f
-sent-before f due l = let e : max f.sent due ≡ f.sent = omega arith in rw e
+pub sent_before : (f : Flash) (due : ℕ) → due ≤ f.sent → f ≡ sent_up_to due f
+sent_before f due l = let e : max f.sent due ≡ f.sent = omega arith in rw e
 
 -- a flash keeps its lamp
-pub note-kept : (l k : Lamps) (f : Flash) (due : ℕ) → f ≡ sent_up_to due l.flash → k ≡ flashing f l → has_note l.flash ≡ true → has_note k.flash ≡ true
+pub note_kept : (l k : Lamps) (f : Flash) (due : ℕ) → f ≡ sent_up_to due l.flash → k ≡ flashing f l → has_note l.flash ≡ true → has_note k.flash ≡ true
 unfolding flashing
-note-kept l k f due q w h = rw (w, q) h
+note_kept l k f due q w h = rw (w, q) h
 
-pub note-of : (f : Flash) → has_note f ≡ true → f.on ≡ true → f.base + f.column ≤ 255
-note-of f h e = leb-true (f.base + f.column) 255 (subst (λ (b : Bool). pick b (leb (f.base + f.column) 255) true ≡ true) e h)
+pub note_of_lem : (f : Flash) → has_note f ≡ true → f.on ≡ true → f.base + f.column ≤ 255
+note_of_lem f h e = leb-true (f.base + f.column) 255 (subst (λ (b : Bool). pick b (leb (f.base + f.column) 255) true ≡ true) e h)
 
 -- ── a flash: home is the last move of its row's fader ──
 
@@ -95,18 +95,18 @@ module _ (r : Rig) (l : Lamps) (s : List ℕ) (home : Level) (t : Talk) where
   module _ (now : Float) where
     -- k are the lamps after the new flash, u the line after the old one's end
     module _ (n base : ℕ) (u : Talk) (k : Lamps) (f : Finishes r l s home t u) where
-      pub shows-none : 64 ≤ n → k ≡ flashing no_flash l → Shows r l s home now n base t (got k u)
+      pub shows_none : 64 ≤ n → k ≡ flashing no_flash l → Shows r l s home now n base t (got k u)
       unfolding flash_number
-      shows-none e q m h = rw (le-leb 64 n e, ← f m h, ← q)
+      shows_none e q m h = rw (le-leb 64 n e, ← f m h, ← q)
 
       pub shows : (a b : Talk) → n < 64 → a ≡ send (sent_to (n / 8) f0) u → b ≡ phase_led (flash_of now n base) 0 a → k ≡ flashing (flash_of now n base) l →
           Shows r l s home now n base t (got k b)
       unfolding flash_number
       shows a b e p q w m h = rw (lt-leb 64 n e, ← f m h, ← p, ← q, ← w)
 
-    pub no-tick : l.flash.on ≡ false → Plays r l s home now t (got l t)
+    pub no_tick : l.flash.on ≡ false → Plays r l s home now t (got l t)
     unfolding tick_flash
-    no-tick e m h = rw e
+    no_tick e m h = rw e
 
     -- the phases up to due are sent, and k are the lamps that know it
     module _ (due : ℕ) (a : Talk) (f : Flash) (k : Lamps) (d : due ≡ due_of now l.flash.start) (p : a ≡ phases_to l.flash due t)
@@ -117,13 +117,13 @@ module _ (r : Rig) (l : Lamps) (s : List ℕ) (home : Level) (t : Talk) where
           let x : got k a ≡ tick_if true r s m now l t = rw (← d, o, ← p, ← q, ← w) in
           x ∙ ap (λ on. tick_if on r s m now l t) (sym e)
 
-      home-kept : (m : Moves) → IsHome home r l m → IsHome home r k m
+      home_kept : (m : Moves) → IsHome home r l m → IsHome home r k m
       unfolding flashing
-      home-kept m h = rw (w, q) h
+      home_kept m h = rw (w, q) h
 
-      pub plays-out : (u : Talk) (off : Lamps) → l.flash.on ≡ true → flash_over now l.flash.start ≡ true → Finishes r k s home a u →
+      pub plays_out : (u : Talk) (off : Lamps) → l.flash.on ≡ true → flash_over now l.flash.start ≡ true → Finishes r k s home a u →
           off ≡ flashing no_flash k → Plays r l s home now t (got off u)
       unfolding tick_flash
-      plays-out u off e o g z m h =
-          let x : got off u ≡ tick_if true r s m now l t = rw (← d, o, ← p, ← q, ← w, ← g m (home-kept m h), ← z) in
+      plays_out u off e o g z m h =
+          let x : got off u ≡ tick_if true r s m now l t = rw (← d, o, ← p, ← q, ← w, ← g m (home_kept m h), ← z) in
           x ∙ ap (λ on. tick_if on r s m now l t) (sym e)

@@ -28,23 +28,23 @@ nobody = player_of 0
 
 -- ── a player as one number ──
 
-packed-driver : (d t b : ℕ) → t < 65536 → b < 2 → ((d * 65536 + t) * 2 + b) / 131072 ≡ d
-packed-driver d t b h l = omega arith
+packed_driver : (d t b : ℕ) → t < 65536 → b < 2 → ((d * 65536 + t) * 2 + b) / 131072 ≡ d
+packed_driver d t b h l = omega arith
 
-packed-target : (d t b : ℕ) → t < 65536 → b < 2 → ((d * 65536 + t) * 2 + b) / 2 % 65536 ≡ t
-packed-target d t b h l = omega arith
+packed_target : (d t b : ℕ) → t < 65536 → b < 2 → ((d * 65536 + t) * 2 + b) / 2 % 65536 ≡ t
+packed_target d t b h l = omega arith
 
-packed-there : (d t b : ℕ) → b < 2 → ((d * 65536 + t) * 2 + b) % 2 ≡ b
-packed-there d t b l = omega arith
+packed_there : (d t b : ℕ) → b < 2 → ((d * 65536 + t) * 2 + b) % 2 ≡ b
+packed_there d t b l = omega arith
 
-pub is-there : (c : Command) → c.target < 65536 → player_of ((c.driver * 65536 + c.target) * 2 + 1) ≡ met c true
-is-there c h = rw (packed-driver c.driver c.target 1 h (omega arith), packed-target c.driver c.target 1 h (omega arith), packed-there c.driver c.target 1 (omega arith))
+pub is_there : (c : Command) → c.target < 65536 → player_of ((c.driver * 65536 + c.target) * 2 + 1) ≡ met c true
+is_there c h = rw (packed_driver c.driver c.target 1 h (omega arith), packed_target c.driver c.target 1 h (omega arith), packed_there c.driver c.target 1 (omega arith))
 
-pub is-gone : (c : Command) → c.target < 65536 → player_of ((c.driver * 65536 + c.target) * 2) ≡ met c false
-is-gone c h =
+pub is_gone : (c : Command) → c.target < 65536 → player_of ((c.driver * 65536 + c.target) * 2) ≡ met c false
+is_gone c h =
     let n : ℕ = (c.driver * 65536 + c.target) * 2 in
     ap player_of (sym (add-zero n))
-    ∙ rw (packed-driver c.driver c.target 0 h (omega arith), packed-target c.driver c.target 0 h (omega arith), packed-there c.driver c.target 0 (omega arith))
+    ∙ rw (packed_driver c.driver c.target 0 h (omega arith), packed_target c.driver c.target 0 h (omega arith), packed_there c.driver c.target 0 (omega arith))
 
 -- ── the known players: the first n of an array, where the scan ended at k ──
 module _ (c : Command) (xs : List ℕ) (n k : ℕ) (e : k ≡ at (is_player c) (seen_players n xs)) (l : n < length xs) where
@@ -76,14 +76,14 @@ module _ (c : Command) (known : List Player) (k : ℕ) (e : k ≡ at (is_player 
       go : (b : Bool) → ltb k (length known) ≡ b → lit (meet_one (find (is_player c) known) c known t) ≡ meet_if (find (is_player c) known) c known n t
       go true h = rw (laws.find_at (is_player c) nobody known (subst (λ (m : ℕ). m < length known) e (ltb-true k (length known) h)), e)
       go false h = rw (
-        laws.find-no (is_player c) nobody known (subst (λ (m : ℕ). length known ≤ m) e (ltb-false k (length known) h)),
+        laws.find_no (is_player c) nobody known (subst (λ (m : ℕ). length known ≤ m) e (ltb-false k (length known) h)),
         get_or_at known (met c (playing_of c.driver c.target t).value) [] nobody k (omega (arith, laws.at-le (is_player c) nobody known, ltb-false k (length known) h, e)),
       )
 
   -- xs are the players after the meeting, m of them
-  pub lit-kth : (xs : List ℕ) (m : ℕ) (u : Talk) → k < m → got (seen_players m xs) u ≡ meeting c known t →
+  pub lit_kth : (xs : List ℕ) (m : ℕ) (u : Talk) → k < m → got (seen_players m xs) u ≡ meeting c known t →
       got (seen_players m xs) (send (Led n (player_of (get_or xs k 0)).there) u) ≡ meet_if (find (is_player c) known) c known n t
-  lit-kth xs m u h q =
+  lit_kth xs m u h q =
       ap (λ (p : Player). got (seen_players m xs) (send (Led n p.there) u)) (sym (kth player_of xs m k h)) ∙ ap lit q ∙ lit-met
 
 -- ── the lamps counted up ──
@@ -93,10 +93,10 @@ module _ (es : List Entry) (t : Talk) where
   unfolding lit_up_to next push_bound
   lit-one i h = rw (drop-cons es i no_entry h)
 
-  lit-rest : (i : ℕ) → i ≤ length es → push_bound (drop i es) (lit_up_to es i t).value (lit_up_to es i t).talk ≡ push_bound es [] t
+  lit_rest : (i : ℕ) → i ≤ length es → push_bound (drop i es) (lit_up_to es i t).value (lit_up_to es i t).talk ≡ push_bound es [] t
   unfolding lit_up_to
-  lit-rest zero h = refl
-  lit-rest (suc i) h = lit-one i (omega arith) ∙ lit-rest i (omega arith)
+  lit_rest zero h = refl
+  lit_rest (suc i) h = lit-one i (omega arith) ∙ lit_rest i (omega arith)
 
   nothing_left : (i : ℕ) → length es ≤ i → (lit_up_to es i t).talk ≡ push_bound (drop i es) (lit_up_to es i t).value (lit_up_to es i t).talk
   unfolding push_bound
@@ -104,7 +104,7 @@ module _ (es : List Entry) (t : Talk) where
 
   -- i is how many the code has lit
   pub lit-all : (i : ℕ) (known : List Player) (u : Talk) → i ≡ length es → got known u ≡ lit_up_to es i t → u ≡ push_bound es [] t
-  lit-all i known u l q = ap (λ (r : Got (List Player)). r.talk) q ∙ nothing_left i (omega arith) ∙ lit-rest i (omega arith)
+  lit-all i known u l q = ap (λ (r : Got (List Player)). r.talk) q ∙ nothing_left i (omega arith) ∙ lit_rest i (omega arith)
 
 -- none is lit yet, and nobody known
 pub lit-none : (es : List Entry) (t : Talk) → got [] t ≡ lit_up_to es 0 t
@@ -113,11 +113,11 @@ lit-none es t = refl
 
 -- the buttons of the first n records of an array, one more lit
 module _ (s ks : List ℕ) (n : ℕ) (l : n ≤ length ks) where
-  pub how-many : length (seen_entries s n ks) ≡ n
-  how-many = length-map (take n ks) (entry_at s) ∙ length-take-le n ks l
+  pub how_many : length (seen_entries s n ks) ≡ n
+  how_many = length-map (take n ks) (entry_at s) ∙ length-take-le n ks l
 
   ith : (i : ℕ) → i < n → get_or (seen_entries s n ks) i no_entry ≡ entry_at s (get_or ks i 0)
-  ith i h = laws.other_none (seen_entries s n ks) i no_entry (entry_at s 0) (omega (arith, how-many)) ∙ kth (entry_at s) ks n i h
+  ith i h = laws.other_none (seen_entries s n ks) i no_entry (entry_at s 0) (omega (arith, how_many)) ∙ kth (entry_at s) ks n i h
 
   pub lit_next : (i : ℕ) (t u : Talk) (known : List Player) (r : Got (List Player)) (e : Entry) → i < n → e ≡ entry_at s (get_or ks i 0) →
       got known u ≡ lit_up_to (seen_entries s n ks) i t → r ≡ lamp_for (transport_note e.kind) e.command known u → r ≡ lit_up_to (seen_entries s n ks) (i + 1) t

@@ -16,16 +16,16 @@ use Rattle.session.specs.declared.Session.{Session}
 use Rattle.base.specs.Keyed.{find}
 use Rattle.definition.specs.Faders.{in_range, declined_by}
 use Rattle.definition.specs.Shape.{well_shaped}
-use Rattle.bridge.proofs.Fit.{turns-few, turns-wired, sums-low}
-use Rattle.bridge.proofs.HandLaws.{sums-fit, turn-room, place-encoder, place-low, unwired, unturned, turned}
+use Rattle.bridge.proofs.Fit.{turns_few, turns_wired, sums_low}
+use Rattle.bridge.proofs.HandLaws.{sums_fit, turn_room, place-encoder, place_low, unwired, unturned, turned}
 use Rattle.bridge.proofs.on_encoder.Goals as goal
 
 -- no sum overflows by the turn, which the machine keeps as it is
 fit : (p : List ℕ) (s : Session) (delta : ℤ) → length s.turns.records ≡ 136 → length s.turns.sums ≡ 136 → well_shaped p s ≡ true → in_range delta ≡ true →
     SFits w32 delta → SumsFit s.turns.sums s.turns.count (to_z w32 (of_z w32 delta))
-fit p s delta records-long sums-long e small fits =
+fit p s delta records_long sums_long e small fits =
     subst (λ (z : ℤ). SumsFit s.turns.sums s.turns.count z) (sym (to_z-of_z w32 delta fits))
-    (sums-fit p s.turns records-long sums-long (turns-few p s e) delta small (sums-low p s e))
+    (sums_fit p s.turns records_long sums_long (turns_few p s e) delta small (sums_low p s e))
 
 -- why the turn is declined
 why : (p : List ℕ) (s : Session) (delta : ℤ) (k w : ℕ) → SFits w32 delta →
@@ -44,7 +44,7 @@ returns-in_default c =
 pub overflow_cast-k : goal.overflow_cast-k
 overflow_cast-k c =
     let h : c.in-At.at < 65536 =
-    place-low c.args.profile.now c.args.session.bank (c.args.channel + 1) c.in-At.at (sym c.encoder_record.ensures ∙ c.in-At.is) c.requires.profile_value in
+    place_low c.args.profile.now c.args.session.bank (c.args.channel + 1) c.in-At.at (sym c.encoder_record.ensures ∙ c.in-At.is) c.requires.profile_value in
     record { fits = h }
 
 pub turn_declined-why-requires : goal.turn_declined-why-requires
@@ -52,13 +52,13 @@ turn_declined-why-requires c =
     let p = c.args.profile.now in
     let s = c.args.session in
     let e = c.requires.session_value in
-    let records-long : length s.turns.records ≡ 136 = search (long, c.well_formed.0.1.1.1.1.1.1.1.1) in
-    let sums-long : length s.turns.sums ≡ 136 = search (long, c.well_formed.0.1.1.1.1.1.1.1.1) in
+    let records_long : length s.turns.records ≡ 136 = search (long, c.well_formed.0.1.1.1.1.1.1.1.1) in
+    let sums_long : length s.turns.sums ≡ 136 = search (long, c.well_formed.0.1.1.1.1.1.1.1.1) in
     record {
-      n_bound = turns-few p s e;
-      records_value = turns-wired p s e;
+      n_bound = turns_few p s e;
+      records_value = turns_wired p s e;
       k_value = place-encoder p s.bank (c.args.channel + 1) c.in-At.at (sym c.encoder_record.ensures ∙ c.in-At.is);
-      sums_fit = fit p s c.args.delta records-long sums-long e c.requires.delta_value c.ranges.delta;
+      sums_fit = fit p s c.args.delta records_long sums_long e c.requires.delta_value c.ranges.delta;
     }
 
 pub returns-then-why-ne0 : goal.returns-then-why-ne0
@@ -74,20 +74,20 @@ turned-count-requires c =
     let p = c.args.profile.now in
     let s = c.args.session in
     let e = c.requires.session_value in
-    let records-long : length s.turns.records ≡ 136 = search (long, c.well_formed.0.1.1.1.1.1.1.1.1) in
-    let sums-long : length s.turns.sums ≡ 136 = search (long, c.well_formed.0.1.1.1.1.1.1.1.1) in
-    turn-room p s.turns records-long sums-long (turns-few p s e) c.in-At.at (to_z w32 (of_z w32 c.args.delta)) (turns-wired p s e)
+    let records_long : length s.turns.records ≡ 136 = search (long, c.well_formed.0.1.1.1.1.1.1.1.1) in
+    let sums_long : length s.turns.sums ≡ 136 = search (long, c.well_formed.0.1.1.1.1.1.1.1.1) in
+    turn_room p s.turns records_long sums_long (turns_few p s e) c.in-At.at (to_z w32 (of_z w32 c.args.delta)) (turns_wired p s e)
     (place-encoder p s.bank (c.args.channel + 1) c.in-At.at (sym c.encoder_record.ensures ∙ c.in-At.is))
-    (fit p s c.args.delta records-long sums-long e c.requires.delta_value c.ranges.delta) (sym c.turn_declined-why.ensures ∙ c.if-why-ne0.false)
+    (fit p s c.args.delta records_long sums_long e c.requires.delta_value c.ranges.delta) (sym c.turn_declined-why.ensures ∙ c.if-why-ne0.false)
 
 pub returns : goal.returns
 returns c =
     let p = c.args.profile.now in
     let s = c.args.session in
     let i = c.in-At.at in
-    let opened-long : length s.opened ≡ 16 = search (long, c.well_formed.0.1.1.1.1.1.1.1.1.1.1.1) in
+    let opened_long : length s.opened ≡ 16 = search (long, c.well_formed.0.1.1.1.1.1.1.1.1.1.1.1) in
     rw c.turned-t.ensures
-    (turned p s c.args.channel c.args.delta c.requires.session_value i _ c.nothing-o-2.result c.requires.profile_value opened-long c.requires.channel_bound
+    (turned p s c.args.channel c.args.delta c.requires.session_value i _ c.nothing-o-2.result c.requires.profile_value opened_long c.requires.channel_bound
     c.requires.delta_value (sym c.encoder_record.ensures ∙ c.in-At.is)
     (sym (why p s c.args.delta i c.turn_declined-why.result c.ranges.delta c.turn_declined-why.ensures) ∙ c.if-why-ne0.false)
     (c.turned-count.ensures.sums_after ∙ ap (λ (z : ℤ). turn (dest_at p i) z (seen_turns p s.turns)) (to_z-of_z w32 c.args.delta c.ranges.delta))

@@ -1,13 +1,13 @@
 -- `bridge::on_fader` meets its contract. Assumes nothing.
 use native.Mathlib.Omega.{arith}
 use mathlib.Core.Path.{sym, ◌∙◌}
-use Rattle.bridge.proofs.Fit.{bank-low}
+use Rattle.bridge.proofs.Fit.{bank_low}
 use Rattle.bridge.proofs.on_fader.Goals as goal
 
 pub is_marked-requires : goal.is_marked-requires
 is_marked-requires c =
     let b = c in
-    omega (arith, bank-low b.args.profile.now b.args.session b.requires.session_value b.requires.profile_value, b.requires.channel_bound)
+    omega (arith, bank_low b.args.profile.now b.args.session b.requires.session_value b.requires.profile_value, b.requires.channel_bound)
 
 pub in_control-requires : goal.in_control-requires
 in_control-requires c =

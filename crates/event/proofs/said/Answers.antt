@@ -7,14 +7,14 @@ use borrow.Author.Tests.{eq-eqb, ne_eqb}
 use Rattle.event.proofs.said.Goals as goal
 
 -- the message's bytes start at 2
-length-of : (n : ℕ) → n + 2 - 2 ≡ n
-length-of n = omega arith
+length_of : (n : ℕ) → n + 2 - 2 ≡ n
+length_of n = omega arith
 
 pub returns-then-kind-eq1 : goal.returns-then-kind-eq1
 unfolding input_of
 returns-then-kind-eq1 c =
     let s = c.args.event.now in
-    rw (eq-eqb _ _ c.if-kind-eq1.true, ← length-of (get_or s 1 0), ← c.decode.ensures)
+    rw (eq-eqb _ _ c.if-kind-eq1.true, ← length_of (get_or s 1 0), ← c.decode.ensures)
 
 pub returns-then-kind-eq2 : goal.returns-then-kind-eq2
 unfolding input_of

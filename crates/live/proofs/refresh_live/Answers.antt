@@ -1,20 +1,20 @@
 use Prim.Native.Nat.{◌≤◌}
 use mathlib.Core.Path.{refl}
 use native.Mathlib.Omega.{arith}
-use Rattle.live.proofs.Laws.{low-device, asks-nobody, as_before, another, still, renewed}
+use Rattle.live.proofs.Laws.{low_device, asks_nobody, as_before, another, still, renewed}
 use Rattle.live.proofs.refresh_live.Goals as goal
 
 pub returns-then-which-name : goal.returns-then-which-name
 returns-then-which-name c = let name = c.device_of-name in
     let which = c.live_of-which in
     let start = c in
-    record { messages_after = asks-nobody _ _ _ _ _ which.result name.result which.ensures name.ensures c.if-which-name.true; still_here = still start.args.here _ refl refl start.requires.count_bound }
+    record { messages_after = asks_nobody _ _ _ _ _ which.result name.result which.ensures name.ensures c.if-which-name.true; still_here = still start.args.here _ refl refl start.requires.count_bound }
 
 pub overflow_cast-driver : goal.overflow_cast-driver
 overflow_cast-driver c = let name = c.device_of-name in
     let which = c.live_of-which in
     let start = c in
-    let low : name.result ≤ 15 = low-device _ start.requires.profile_value _ which.result name.result name.ensures c.if-which-name.false in
+    let low : name.result ≤ 15 = low_device _ start.requires.profile_value _ which.result name.result name.ensures c.if-which-name.false in
     omega arith
 
 pub returns-then-is_as_before : goal.returns-then-is_as_before

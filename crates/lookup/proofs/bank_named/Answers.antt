@@ -4,7 +4,7 @@ use native.Mathlib.Omega.{arith}
 use borrow.Author.Tests.{eq-eqb, ne_eqb}
 use borrow.Author.Rules.{rules}
 use Rattle.base.specs.FirstLaws.{first-none, first_more, first_done, first-hit}
-use Rattle.profile.specs.Accepted.{few-banks}
+use Rattle.profile.specs.Accepted.{few_banks}
 use Rattle.lookup.specs.Lookup.{bank_named}
 use Rattle.lookup.proofs.bank_named.Goals as goal
 
@@ -12,7 +12,7 @@ pub loop-b-init : goal.loop-b-init
 loop-b-init c = (search rules, first-none _)
 
 pub overflow_cast-b : goal.overflow_cast-b
-overflow_cast-b c = omega (arith, few-banks _ c.requires, c.bank_count-n.ensures)
+overflow_cast-b c = omega (arith, few_banks _ c.requires, c.bank_count-n.ensures)
 
 pub returns-then-bank_name-name : goal.returns-then-bank_name-name
 unfolding bank_named

@@ -6,7 +6,7 @@ use lib.ListN.{length}
 use borrow.Author.Tests.{eq-eqb, ne_eqb}
 use borrow.Author.Rules.{rules}
 use Rattle.lookup.specs.Lookup.{entry_at, of_kind}
-use Rattle.lookup.specs.SeenLaws.{none_yet, one_more, match, no-match}
+use Rattle.lookup.specs.SeenLaws.{none_yet, one_more, match, no_match}
 use Rattle.lookup.proofs.find_kind.Goals as goal
 
 pub loop-i-init : goal.loop-i-init
@@ -43,4 +43,4 @@ pub returns : goal.returns
 returns c =
     let p = c.loop-i in
     let a = c.args in
-    no-match (entry_at a.profile.now) (of_kind a.kind) a.list.now p.i a.n (omega arith) (omega arith) p.invariant.1
+    no_match (entry_at a.profile.now) (of_kind a.kind) a.list.now p.i a.n (omega arith) (omega arith) p.invariant.1

@@ -9,7 +9,7 @@ use borrow.Author.Rules.{rules}
 use borrow.Author.Tests.{lt-ltb, le-ltb}
 use Rattle.base.specs.RangeLaws.{count-done}
 use Rattle.profile.specs.Profile.{records, is_kind, kind_count, bank_count}
-use Rattle.profile.specs.RangeMore.{count-mono}
+use Rattle.profile.specs.RangeMore.{count_mono}
 use Rattle.lookup.specs.GatherLaws.{Walked, walked_none, walked_on}
 use Rattle.lookup.proofs.has_bank.Goals as goal
 
@@ -18,7 +18,7 @@ use Rattle.lookup.proofs.has_bank.Goals as goal
 there : (s : List ℕ) (bank m k : ℕ) → k ≤ records s → Walked (is_kind s 1) m k → bank < m → true ≡ ltb bank (bank_count s)
 unfolding kind_count
 there s bank m k l w h =
-    sym (lt-ltb bank (bank_count s) (omega (arith, w.is, count-mono (is_kind s 1) k (records s) l)))
+    sym (lt-ltb bank (bank_count s) (omega (arith, w.is, count_mono (is_kind s 1) k (records s) l)))
 
 -- m banks are all there are, and it is none of them
 not_there : (s : List ℕ) (bank m k : ℕ) → k ≤ records s → records s ≤ k → Walked (is_kind s 1) m k → m ≤ bank → false ≡ ltb bank (bank_count s)

@@ -3,8 +3,8 @@ use mathlib.Core.Path.{◌≡◌}
 use native.Mathlib.Omega.{arith}
 use lib.ListN.{length}
 use Rattle.drivers.specs.Talk.{next}
-use Rattle.session.specs.SessionLaws.{targets-seen}
-use Rattle.mutes.specs.HeldLaws.{room-at}
+use Rattle.session.specs.SessionLaws.{targets_seen}
+use Rattle.mutes.specs.HeldLaws.{room_at_lem}
 use Rattle.definition.specs.Muting.{mute}
 use Rattle.mutes.proofs.mute.Goals as goal
 
@@ -20,7 +20,7 @@ returns-in_default c = record {
 
 pub mute_at-m-requires : goal.mute_at-m-requires
 mute_at-m-requires c = let b = c in
-    record { hushed_bound = b.requires.hushed_bound; targets_value = room-at _ _ _ _ c.destination.ensures c.in-To.is b.requires.targets_value }
+    record { hushed_bound = b.requires.hushed_bound; targets_value = room_at_lem _ _ _ _ c.destination.ensures c.in-To.is b.requires.targets_value }
 
 pub returns : goal.returns
 unfolding mute next
@@ -34,7 +34,7 @@ returns c =
         ← c.destination.ensures,
         c.in-To.is,
         ← m.ensures.messages_after,
-        targets-seen m.result.hushed ts ls (omega arith),
+        targets_seen m.result.hushed ts ls (omega arith),
         ← c.push_state-v.ensures,
       );
       hushed_bound_2 = n;

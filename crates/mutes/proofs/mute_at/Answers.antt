@@ -1,5 +1,5 @@
 use lib.ListN.{take}
-use Rattle.mutes.specs.HeldLaws.{is-hushed, not-hushed, room-for}
+use Rattle.mutes.specs.HeldLaws.{is_hushed_lem, not_hushed, room_for_lem}
 use Rattle.mutes.proofs.mute_at.Goals as goal
 
 pub returns-then-has_mute : goal.returns-then-has_mute
@@ -26,12 +26,12 @@ pub zeroed-requires : goal.zeroed-requires
 zeroed-requires c =
     let b = c in
     let m = c.has_mute in
-    record { hushed_bound = b.requires.hushed_bound; targets_value = room-for b.args.dest (take b.args.hushed b.args.targets.now) _ m.ensures c.if-has_mute.false b.requires.targets_value }
+    record { hushed_bound = b.requires.hushed_bound; targets_value = room_for_lem b.args.dest (take b.args.hushed b.args.targets.now) _ m.ensures c.if-has_mute.false b.requires.targets_value }
 
 pub returns-in-At : goal.returns-in-At
 returns-in-At c =
     let l = c.hushed_level in
-    let e = is-hushed _ _ _ _ l.ensures c.in-At.is in record {
+    let e = is_hushed_lem _ _ _ _ l.ensures c.in-At.is in record {
       messages_after = rw (
         ← c.has_mute.ensures,
         c.if-has_mute.false,
@@ -45,7 +45,7 @@ returns-in-At c =
 pub returns-in-Unknown : goal.returns-in-Unknown
 returns-in-Unknown c =
     let l = c.hushed_level in
-    let e = not-hushed _ _ _ l.ensures c.in-Unknown.is in record {
+    let e = not_hushed _ _ _ l.ensures c.in-Unknown.is in record {
       messages_after = rw (
         ← c.has_mute.ensures,
         c.if-has_mute.false,

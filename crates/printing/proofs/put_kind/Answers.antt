@@ -1,7 +1,7 @@
 -- `printing::put_kind` meets its contract. Assumes nothing.
 use borrow.Author.Rules.{rules}
 use Rattle.printing.specs.Text.{kind_word}
-use Rattle.printing.proofs.Laws.{live-kind}
+use Rattle.printing.proofs.Laws.{live_kind}
 use Rattle.printing.proofs.put_kind.Goals as goal
 
 pub returns-in-0 : goal.returns-in-0
@@ -42,4 +42,4 @@ returns-in-8 c = record { upper_bound = search rules; out_after = rw (c.put-in-8
 
 pub returns-in_default : goal.returns-in_default
 returns-in_default c =
-    record { upper_bound = search rules; out_after = rw (c.put-in_default.ensures.out_after, live-kind c.args.kind (search rules) (search rules) (search rules) (search rules) (search rules) (search rules) (search rules) (search rules) (search rules)) }
+    record { upper_bound = search rules; out_after = rw (c.put-in_default.ensures.out_after, live_kind c.args.kind (search rules) (search rules) (search rules) (search rules) (search rules) (search rules) (search rules) (search rules) (search rules)) }

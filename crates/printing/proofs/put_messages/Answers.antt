@@ -7,7 +7,7 @@ use lib.ListN.{take}
 use borrow.Author.Rules.{rules}
 use Rattle.drivers.specs.Shown.{messages_in}
 use Rattle.printing.specs.Text.{message_lines}
-use Rattle.printing.proofs.Laws.{message-more}
+use Rattle.printing.proofs.Laws.{message_more}
 use Rattle.printing.proofs.put_messages.Goals as goal
 
 pub loop-i-init : goal.loop-i-init
@@ -19,7 +19,7 @@ loop-i-preserved c =
     let b = c in
     let a = c.args in
     let i = b.loop-i.i in
-    (search rules, search rules, search rules, message-more (take a.at a.out.now) a.messages.now i (3 * i + 3 - 3 * i) (omega (arith, c.loop-i-test.true, c.requires.n_in_bounds)) (omega arith) b.loop-i.invariant.3 c.put_message-a.ensures.out_after)
+    (search rules, search rules, search rules, message_more (take a.at a.out.now) a.messages.now i (3 * i + 3 - 3 * i) (omega (arith, c.loop-i-test.true, c.requires.n_in_bounds)) (omega arith) b.loop-i.invariant.3 c.put_message-a.ensures.out_after)
 
 pub returns : goal.returns
 returns c =

@@ -15,12 +15,12 @@ IsPart xs k n = n ≤ length (take (length xs - k) (drop k xs))
 rest : (xs : List ℕ) (k n : ℕ) → k ≤ length xs → IsPart xs k n → k + n ≤ length xs
 rest xs k n h m = omega (arith, length-take (length xs - k) (drop k xs), length-drop k xs)
 
-part-fits : (xs : List ℕ) (k n : ℕ) → length xs < 2 ^ 64 → k ≤ length xs → IsPart xs k n → Fits w64 n
-part-fits xs k n l h m = record { fits = omega (arith, rest xs k n h m) }
+part_fits : (xs : List ℕ) (k n : ℕ) → length xs < 2 ^ 64 → k ≤ length xs → IsPart xs k n → Fits w64 n
+part_fits xs k n l h m = record { fits = omega (arith, rest xs k n h m) }
 
 pub overflow_mul-read : goal.overflow_mul-read
 overflow_mul-read c =
-    part-fits c.args.answers.now c.loop-from.read _ c.well_formed.1.1.0.0 c.loop-from.invariant.1 c.one-r.ensures.used_in_bounds
+    part_fits c.args.answers.now c.loop-from.read _ c.well_formed.1.1.0.0 c.loop-from.invariant.1 c.one-r.ensures.used_in_bounds
 
 pub overflow_add-read : goal.overflow_add-read
 overflow_add-read c =

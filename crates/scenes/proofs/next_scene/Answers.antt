@@ -1,4 +1,4 @@
-use Rattle.scenes.proofs.Laws.{one_on, right_end, left_end, one-back, back-to-last}
+use Rattle.scenes.proofs.Laws.{one_on, right_end, left_end, one_back, back_to_last}
 use Rattle.scenes.proofs.next_scene.Goals as goal
 
 pub returns-then-s-last : goal.returns-then-s-last
@@ -15,8 +15,8 @@ returns-then-s-eq0 c = let start = c in
 
 pub returns-then-s-last-2 : goal.returns-then-s-last-2
 returns-then-s-last-2 c = let start = c in
-    one-back _ _ _ c.in-At.is start.requires _ c.if-right.false c.if-s-last-2.true
+    one_back _ _ _ c.in-At.is start.requires _ c.if-right.false c.if-s-last-2.true
 
 pub returns : goal.returns
 returns c = let start = c in
-    back-to-last _ _ _ c.in-At.is start.requires _ c.if-right.false c.if-s-last-2.false
+    back_to_last _ _ _ c.in-At.is start.requires _ c.if-right.false c.if-s-last-2.false

@@ -1,4 +1,4 @@
-use Rattle.scenes.proofs.Laws.{at-end, cannot-load, reaches, same-note, same_line}
+use Rattle.scenes.proofs.Laws.{at-end, cannot_load, reaches, same_note, same_line}
 use Rattle.scenes.proofs.page_to.Goals as goal
 
 pub returns-then-is_at : goal.returns-then-is_at
@@ -9,13 +9,13 @@ pub returns-then-not-g : goal.returns-then-not-g
 returns-then-not-g c = let load = c.load_scene_at-g in
     let test = c in
     let is = test in
-    cannot-load _ _ _ _ _ _ _ _ _ is.scene_at.ensures _ is.is_at.ensures test.if-is_at.false _ _ _ load.ensures.messages_after _ _ c.if-not-g.true
+    cannot_load _ _ _ _ _ _ _ _ _ is.scene_at.ensures _ is.is_at.ensures test.if-is_at.false _ _ _ load.ensures.messages_after _ _ c.if-not-g.true
     c.not_loaded-then-not-g.ensures.1 (same_line _ _ _ _ _ c.not_loaded-then-not-g.ensures.0)
 
 pub show_loaded-requires : goal.show_loaded-requires
 show_loaded-requires c = let start = c in
     let load = c.load_scene_at-g in
-    record { count_bound = start.requires.count_bound; hushed_bound = start.requires.hushed_bound; flash_value = same-note start.args.lamps load.result.lamps load.ensures.flash_value start.requires.flash_value }
+    record { count_bound = start.requires.count_bound; hushed_bound = start.requires.hushed_bound; flash_value = same_note start.args.lamps load.result.lamps load.ensures.flash_value start.requires.flash_value }
 
 pub returns : goal.returns
 returns c = let load = c.load_scene_at-g in

@@ -21,7 +21,7 @@ returns-then-not-is_encoder c =
     let g = c.is_encoder in
     let l : length ks ≡ 136 = c.ks-1.given in
     sym
-    (laws.every-stop (is_encoder b.args.profile.now) 0 ks p.i b.args.n (omega arith) (omega (arith, b.requires))
+    (laws.every_stop (is_encoder b.args.profile.now) 0 ks p.i b.args.n (omega arith) (omega (arith, b.requires))
     (sym g.ensures ∙ not-true g.result c.if-not-is_encoder.true-raw))
 
 pub loop-i-preserved : goal.loop-i-preserved

@@ -10,7 +10,7 @@ use borrow.Author.Rules.{rules}
 use Rattle.shape.proofs.no_target_twice.Goals as goal
 
 pub loop-i-init : goal.loop-i-init
-loop-i-init c = (search rules, laws.once-none eqb 0 c.args.targets.now)
+loop-i-init c = (search rules, laws.once_none eqb 0 c.args.targets.now)
 
 pub returns-then-find_target-i : goal.returns-then-find_target-i
 returns-then-find_target-i c =
@@ -20,8 +20,8 @@ returns-then-find_target-i c =
     let f = c.find_target in
     let l : length ts ≡ 256 = c.ts-1.given in
     sym
-    (laws.once-stop eqb 0 ts p.i n (omega arith) (omega (arith, c.requires))
-    (laws.is-there _ 0 ts p.i f.result f.ensures (omega (arith, c.requires)) c.if-find_target-i.true))
+    (laws.once_stop eqb 0 ts p.i n (omega arith) (omega (arith, c.requires))
+    (laws.is_there _ 0 ts p.i f.result f.ensures (omega (arith, c.requires)) c.if-find_target-i.true))
 
 pub loop-i-preserved : goal.loop-i-preserved
 loop-i-preserved c =

@@ -5,7 +5,7 @@ use borrow.Author.Tests.{le-leb, lt-leb, eq-eqb, ne_eqb}
 use Rattle.base.specs.KeyedLaws as laws
 use Rattle.session.specs.Session.{no_move, low_channel, same_channel}
 use Rattle.definition.specs.Shape.{shaped_line}
-use Rattle.shape.proofs.Laws.{fine-none, new_none, new-more, fine_more, too_many, unfit, twice, all-fine}
+use Rattle.shape.proofs.Laws.{fine_none, new_none, new-more, fine_more, too_many, unfit, twice, all_fine}
 use borrow.Author.Rules.{rules}
 use Rattle.shape.proofs.shaped_line.Goals as goal
 
@@ -14,7 +14,7 @@ unfolding shaped_line
 returns-then-n-gt16 c = too_many low_channel same_channel no_move _ _ _ c.if-n-gt16.true
 
 pub loop-i-init : goal.loop-i-init
-loop-i-init c = (search rules, fine-none low_channel same_channel no_move c.args.line.list)
+loop-i-init c = (search rules, fine_none low_channel same_channel no_move c.args.line.list)
 
 pub returns-then-high : goal.returns-then-high
 unfolding shaped_line
@@ -57,4 +57,4 @@ unfolding shaped_line
 returns c =
     let s = c.args.line in
     let p = c.loop-i in
-    all-fine low_channel same_channel no_move s.list 16 s.count p.i (omega arith) (omega arith) (omega arith) p.invariant.1
+    all_fine low_channel same_channel no_move s.list 16 s.count p.i (omega arith) (omega arith) (omega arith) p.invariant.1

@@ -24,7 +24,7 @@ returns-then-not-shaped_strips c =
     let e : take 16 s.banks ≡ s.banks = take_all 16 s.banks (omega arith) in
     sym
     (ap (all_of shaped_strips) (sym e)
-    ∙ laws.every-stop shaped_strips empty_strips s.banks p.b 16 (omega arith) (omega arith)
+    ∙ laws.every_stop shaped_strips empty_strips s.banks p.b 16 (omega arith) (omega arith)
     (sym c.shaped_strips.ensures ∙ not-true c.shaped_strips.result c.if-not-shaped_strips.true-raw))
 
 pub loop-b-preserved : goal.loop-b-preserved

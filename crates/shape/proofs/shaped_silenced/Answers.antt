@@ -1,7 +1,7 @@
 use native.Mathlib.Omega.{arith}
 use borrow.Author.Tests.{le-leb, lt-leb}
 use Rattle.definition.specs.Shape.{shaped_silenced}
-use Rattle.session.specs.SessionLaws.{targets-seen}
+use Rattle.session.specs.SessionLaws.{targets_seen}
 use Rattle.shape.proofs.shaped_silenced.Goals as goal
 
 pub returns-then-many : goal.returns-then-many
@@ -12,4 +12,4 @@ pub returns : goal.returns
 unfolding shaped_silenced
 returns c = λ x h.
     let few = c.if-many.false in
-    rw (h.count, le-leb _ _ few, targets-seen c.args.n x.targets x.levels (omega (arith, few, h.long)), h.targets) c.no_target_twice.ensures
+    rw (h.count, le-leb _ _ few, targets_seen c.args.n x.targets x.levels (omega (arith, few, h.long)), h.targets) c.no_target_twice.ensures

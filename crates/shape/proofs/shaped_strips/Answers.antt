@@ -6,7 +6,7 @@ use Rattle.base.specs.Range.{every}
 use Rattle.base.specs.KeyedLaws as laws
 use Rattle.session.specs.Session.{good_strip, same_number, no_strip}
 use Rattle.definition.specs.Shape.{shaped_strips}
-use Rattle.shape.proofs.Laws.{fine-none, new_none, new-more, fine_more, too_many, unfit, twice, all-fine}
+use Rattle.shape.proofs.Laws.{fine_none, new_none, new-more, fine_more, too_many, unfit, twice, all_fine}
 use borrow.Author.Rules.{rules}
 use Rattle.shape.proofs.shaped_strips.Goals as goal
 
@@ -19,7 +19,7 @@ unfolding shaped_strips
 returns-then-n-gt8 c = rw c.if-not-strips.false-raw (too_many good_strip same_number no_strip _ _ _ c.if-n-gt8.true)
 
 pub loop-i-init : goal.loop-i-init
-loop-i-init c = (search rules, fine-none good_strip same_number no_strip c.args.strips.list)
+loop-i-init c = (search rules, fine_none good_strip same_number no_strip c.args.strips.list)
 
 pub returns-then-not-fits : goal.returns-then-not-fits
 unfolding shaped_strips every
@@ -65,4 +65,4 @@ unfolding shaped_strips
 returns c =
     let s = c.args.strips in
     let p = c.loop-i in
-    rw c.if-not-strips.false-raw (all-fine good_strip same_number no_strip s.list 8 s.count p.i (omega arith) (omega arith) (omega arith) p.invariant.1)
+    rw c.if-not-strips.false-raw (all_fine good_strip same_number no_strip s.list 8 s.count p.i (omega arith) (omega arith) (omega arith) p.invariant.1)

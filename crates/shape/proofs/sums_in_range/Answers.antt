@@ -27,7 +27,7 @@ returns-then-not-in_range c =
     let v = get_or ns p.i (pos 0) in
     let z : to_z w32 (of_z w32 v) ≡ v = to_z-of_z w32 v (record { sfits = c.in_range-arg-1.given }) in
     sym
-    (laws.every-stop in_range (pos 0) ns p.i b.args.n (omega arith) (omega (arith, b.requires))
+    (laws.every_stop in_range (pos 0) ns p.i b.args.n (omega arith) (omega (arith, b.requires))
     (sym (g.ensures ∙ ap in_range z) ∙ not-true g.result c.if-not-in_range.true-raw))
 
 pub loop-i-preserved : goal.loop-i-preserved

@@ -1,4 +1,4 @@
-use Rattle.mutes.specs.HeldLaws.{is-hushed, not-hushed}
+use Rattle.mutes.specs.HeldLaws.{is_hushed_lem, not_hushed}
 use Rattle.solos.proofs.hand_back_kept.Goals as goal
 
 pub hand_back-requires : goal.hand_back-requires
@@ -13,7 +13,7 @@ hand_back-requires c = record {
 
 pub returns-in-At : goal.returns-in-At
 returns-in-At c = let l = c.hushed_level in
-    let e = is-hushed _ _ _ _ l.ensures c.in-At.is in record {
+    let e = is_hushed_lem _ _ _ _ l.ensures c.in-At.is in record {
       messages_after = rw (
         ← c.kept_by.ensures,
         e,
@@ -24,5 +24,5 @@ returns-in-At c = let l = c.hushed_level in
 
 pub returns-in-Unknown : goal.returns-in-Unknown
 returns-in-Unknown c = let l = c.hushed_level in
-    let e = not-hushed _ _ _ l.ensures c.in-Unknown.is in
+    let e = not_hushed _ _ _ l.ensures c.in-Unknown.is in
     record { messages_after = rw (← c.kept_by.ensures, e); hushed_bound = c.requires }

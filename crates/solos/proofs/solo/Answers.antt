@@ -5,9 +5,9 @@ use Rattle.session.specs.Session.{hushed_up_to}
 use Prim.Native.Nat.{◌≤◌}
 use native.Mathlib.Omega.{arith}
 use lib.ListN.{length}
-use Rattle.session.specs.SessionLaws.{targets-seen}
+use Rattle.session.specs.SessionLaws.{targets_seen}
 use Rattle.definition.specs.Muting.{solo}
-use Rattle.solos.proofs.Laws.{solo-over, room-over}
+use Rattle.solos.proofs.Laws.{solo-over, room_over}
 use Rattle.solos.proofs.solo.Goals as goal
 
 pub returns-in_default : goal.returns-in_default
@@ -18,7 +18,7 @@ pub turn_over-s-requires : goal.turn_over-s-requires
 turn_over-s-requires c = let b = c in
     let p = c.peers_of-peers in
     let to = c.destination in
-    record { hushed_bound = b.requires.hushed_bound; levels_value = b.requires.levels_value; levels_len_bound = room-over _ _ _ _ p.result to.ensures c.in-To.is p.ensures _ _ _ b.requires.levels_len_bound }
+    record { hushed_bound = b.requires.hushed_bound; levels_value = b.requires.levels_value; levels_len_bound = room_over _ _ _ _ p.result to.ensures c.in-To.is p.ensures _ _ _ b.requires.levels_len_bound }
 
 pub push_state-v-requires : goal.push_state-v-requires
 push_state-v-requires c = let b = c in
@@ -33,7 +33,7 @@ returns c = let a = c.args in
     let ls = m.new.levels in
     let n : m.result.hushed ≤ 256 = m.ensures.hushed_bound_2 in
     let l : length ls ≡ 256 = c.ls-2-1.given in
-    let e = targets-seen m.result.hushed ts ls (omega arith) in record {
+    let e = targets_seen m.result.hushed ts ls (omega arith) in record {
       messages_after = rw (
         ← c.destination.ensures,
         c.in-To.is,

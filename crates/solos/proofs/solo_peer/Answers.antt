@@ -5,9 +5,9 @@ use native.Mathlib.Omega.{arith}
 use lib.ListN.{length}
 use borrow.Author.Tests.{not-true, not-false}
 use Rattle.session.specs.Session.{has_room}
-use Rattle.session.specs.SessionLaws.{targets-seen}
+use Rattle.session.specs.SessionLaws.{targets_seen}
 use Rattle.definition.specs.Levels.{kept_by}
-use Rattle.solos.proofs.Laws.{room-to}
+use Rattle.solos.proofs.Laws.{room_to_lem}
 use Rattle.solos.proofs.solo_peer.Goals as goal
 
 pub returns-then-not-peer : goal.returns-then-not-peer
@@ -33,8 +33,8 @@ silence-requires c = let b = c in
     let m = c.has_mute in
     let there = c.if-not-peer.false in
     let none = c.if-has_mute.false in
-    let room = room-to b.args.peer _ _ _ there m.ensures none c.if-hush.true b.requires.levels_value in
-    record { hushed_bound = n; targets_value = subst (λ x. has_room (kept_by b.args.peer.dest) x ≡ true) (targets-seen b.args.hushed ts ls (omega arith)) room }
+    let room = room_to_lem b.args.peer _ _ _ there m.ensures none c.if-hush.true b.requires.levels_value in
+    record { hushed_bound = n; targets_value = subst (λ x. has_room (kept_by b.args.peer.dest) x ≡ true) (targets_seen b.args.hushed ts ls (omega arith)) room }
 
 pub returns-then-hush : goal.returns-then-hush
 returns-then-hush c = let b = c in
@@ -47,7 +47,7 @@ returns-then-hush c = let b = c in
         ← c.has_mute.ensures,
         c.if-has_mute.false,
         c.if-hush.true,
-        targets-seen b.args.hushed ts ls (omega arith),
+        targets_seen b.args.hushed ts ls (omega arith),
         ← c.silence.ensures.messages_after,
       );
       hushed_bound_2 = c.silence.ensures.hushed_bound_2;

@@ -3,7 +3,7 @@ use mathlib.Core.Path.{◌≡◌}
 use native.Mathlib.Omega.{arith}
 use lib.ListN.{length}
 use Rattle.drivers.specs.Talk.{next}
-use Rattle.session.specs.SessionLaws.{targets-seen}
+use Rattle.session.specs.SessionLaws.{targets_seen}
 use Rattle.solos.proofs.turn_on.Goals as goal
 
 pub returns : goal.returns
@@ -14,7 +14,7 @@ returns c = let b = c in
     let n : b.args.hushed ≤ 256 = b.requires.hushed_bound in
     let l : length ls ≡ 256 = c.ls-2-1.given in record {
       messages_after = rw (
-        targets-seen b.args.hushed ts ls (omega arith),
+        targets_seen b.args.hushed ts ls (omega arith),
         ← c.note_mutes-b.ensures,
         ← c.solo_on-m.ensures.messages_after,
         ← c.solo_to-l.ensures,

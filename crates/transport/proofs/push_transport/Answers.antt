@@ -4,12 +4,12 @@ use Prim.Native.Nat.{◌≤◌, ◌<◌}
 use native.Mathlib.Omega.{arith}
 use lib.ListN.{length}
 use Rattle.lookup.specs.Lookup.{seen_entries}
-use Rattle.lookup.specs.SeenLaws.{none_yet, one_more, match, no-match}
+use Rattle.lookup.specs.SeenLaws.{none_yet, one_more, match, no_match}
 use Rattle.drivers.specs.Talk.{got}
 use Rattle.drivers.specs.Shown.{shown}
 use Rattle.definition.specs.Lamps.{is_player}
 use Rattle.transport.specs.Known.{player_of, seen_players}
-use Rattle.transport.proofs.Laws.{lit-none, how-many, lit_next, lit-all}
+use Rattle.transport.proofs.Laws.{lit-none, how_many, lit_next, lit-all}
 use borrow.Author.Rules.{rules}
 use Rattle.transport.proofs.push_transport.Goals as goal
 use Rattle.transport.proofs.push_transport.Goals.{else-players-test, then-players-test+then-is_player}
@@ -52,7 +52,7 @@ push_bound-m-requires c = let p = c.players in
     let l : n ≤ length xs = omega (arith, o.invariant.2) in record {
       count_bound = h;
       k_value = elim c.players-test.branch [
-        | else-players-test w ↦ no-match player_of (is_player d) xs p.k n (omega arith) (omega (arith, w.players-test.false)) p.invariant.1
+        | else-players-test w ↦ no_match player_of (is_player d) xs p.k n (omega arith) (omega (arith, w.players-test.false)) p.invariant.1
         | then-players-test+then-is_player w ↦ match player_of (is_player d) xs p.k n (omega (arith, w.players-test.true)) l p.invariant.1 (sym w.is_player.ensures ∙ w.if-is_player.true)
       ];
     }
@@ -84,4 +84,4 @@ returns c = let o = c.loop-i in
     let a = c.args in
     let bs = f.new.list in
     let b : length bs ≡ 32 = f.ensures.2 in
-    rw (← f.ensures.1) (lit-all (seen_entries a.profile.now f.result bs) _ o.i _ _ (omega (arith, how-many a.profile.now bs f.result (omega (arith, b, f.ensures.0)))) o.invariant.3)
+    rw (← f.ensures.1) (lit-all (seen_entries a.profile.now f.result bs) _ o.i _ _ (omega (arith, how_many a.profile.now bs f.result (omega (arith, b, f.ensures.0)))) o.invariant.3)

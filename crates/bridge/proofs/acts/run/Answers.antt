@@ -1,11 +1,11 @@
 use mathlib.Core.Path.{sym, ap, ◌∙◌}
 use Rattle.bridge.specs.Which.{runs}
-use Rattle.bridge.proofs.ActsLaws.{bank-midi, room-midi, runs-midi, runs-tick, runs-state, runs-transport, runs-flash}
+use Rattle.bridge.proofs.ActsLaws.{bank_midi, room_midi, runs_midi, runs-tick, runs_state, runs-transport, runs-flash}
 use Rattle.bridge.proofs.acts.run.Goals as goal
 
 pub on_midi-requires : goal.on_midi-requires
 on_midi-requires c = let start = c in
-    let is-midi = c.in-Midi.is in record { profile_value = start.requires.profile_value; count_bound = start.requires.count_bound; count_bound_2 = start.requires.count_bound_2; hushed_bound = start.requires.hushed_bound; flash_value = start.requires.flash_value; bank_bound = start.requires.bank_bound; event_value = sym (ap runs is-midi) ∙ start.requires.what_value; bank_value = bank-midi _ _ _ _ _ is-midi start.requires.bank_value; levels_value = start.requires.levels_value; levels_len_bound = room-midi _ _ _ _ _ _ _ is-midi start.requires.levels_len_bound }
+    let is-midi = c.in-Midi.is in record { profile_value = start.requires.profile_value; count_bound = start.requires.count_bound; count_bound_2 = start.requires.count_bound_2; hushed_bound = start.requires.hushed_bound; flash_value = start.requires.flash_value; bank_bound = start.requires.bank_bound; event_value = sym (ap runs is-midi) ∙ start.requires.what_value; bank_value = bank_midi _ _ _ _ _ is-midi start.requires.bank_value; levels_value = start.requires.levels_value; levels_len_bound = room_midi _ _ _ _ _ _ _ is-midi start.requires.levels_len_bound }
 
 pub on_tick-requires : goal.on_tick-requires
 on_tick-requires c = let start = c in
@@ -17,7 +17,7 @@ on_flash_bank-requires c = let start = c in
 
 pub returns-in-Midi : goal.returns-in-Midi
 returns-in-Midi c = let start = c in record {
-  runs_any = runs-midi _ _ _ _ _ _ _ _ start.args.e.what _ _ _ _ _
+  runs_any = runs_midi _ _ _ _ _ _ _ _ start.args.e.what _ _ _ _ _
       c.in-Midi.is c.on_midi.ensures.runs;
   leaves = c.on_midi.ensures.leaves;
 }
@@ -34,7 +34,7 @@ returns-in-Tick c = let start = c in
 pub returns-in-PushState : goal.returns-in-PushState
 returns-in-PushState c = let start = c in
     let long = c.ls-2-1.given in record {
-      runs_any = runs-state _ _ _ _ _ _ _ _ start.args.e.what _ _ _ _ _
+      runs_any = runs_state _ _ _ _ _ _ _ _ start.args.e.what _ _ _ _ _
           start.requires.hushed_bound long c.on_push_state.ensures.hushed_value start.requires.bank_value c.in-PushState.is
           c.on_push_state.ensures.pushes;
       leaves = c.on_push_state.ensures.leaves;

@@ -1,24 +1,24 @@
 use mathlib.Core.Logic.{inl, inr}
-use Rattle.bridge.proofs.PressLaws.{low-bank, hush-room, walk-to, other-kind, pages, walks, others, hushes}
+use Rattle.bridge.proofs.PressLaws.{low_bank, hush_room, walk_to, other-kind, pages, walks, others, hushes}
 use native.Mathlib.Omega.{arith}
 use Rattle.bridge.proofs.buttons.button.Goals.{then-kind-lt6, else-kind-lt6+else-kind-lt8+then-kind-lt10, in_default-via-then-kind-lt1, in_default-via-else-kind-lt1+else-kind-lt3+then-kind-lt4, in_default-via-else-kind-lt1+else-kind-lt3+else-kind-lt4+else-kind-lt6+else-kind-lt8+else-kind-lt10}
 use Rattle.bridge.proofs.buttons.button.Goals as goal
 
 pub hush-requires : goal.hush-requires
 hush-requires c = let b = c.requires in
-    record { count_bound = b.count_bound; hushed_bound = b.hushed_bound; levels_value = b.levels_value; levels_len_bound = hush-room _ _ _ _ _ _ c.kind-kind.ensures _ c.channel_of.ensures.value _ c.in-1.if-kind-lt1-own.false c.in-1.if-kind-lt3-own.true b.levels_len_bound }
+    record { count_bound = b.count_bound; hushed_bound = b.hushed_bound; levels_value = b.levels_value; levels_len_bound = hush_room _ _ _ _ _ _ c.kind-kind.ensures _ c.channel_of.ensures.value _ c.in-1.if-kind-lt1-own.false c.in-1.if-kind-lt3-own.true b.levels_len_bound }
 
 pub page-requires : goal.page-requires
 page-requires c = let b = c.requires in
-    record { profile_value = b.profile_value; count_bound = b.count_bound; bank_bound = low-bank _ _ b.profile_value b.bank_bound; hushed_bound = b.hushed_bound; flash_value = b.flash_value }
+    record { profile_value = b.profile_value; count_bound = b.count_bound; bank_bound = low_bank _ _ b.profile_value b.bank_bound; hushed_bound = b.hushed_bound; flash_value = b.flash_value }
 
 pub walk-requires : goal.walk-requires
 walk-requires c = let b = c.requires in
-    record { count_bound = b.count_bound_2; hushed_bound = b.hushed_bound; flash_value = b.flash_value; bank_bound = b.bank_bound; bank_value = walk-to _ _ _ _ _ c.kind-kind.ensures (omega arith) (elim c.in-4-1.branch [ then-kind-lt6 w ↦ inl (omega arith) | else-kind-lt6+else-kind-lt8+then-kind-lt10 w ↦ inr (omega arith, omega arith) ]) b.bank_value }
+    record { count_bound = b.count_bound_2; hushed_bound = b.hushed_bound; flash_value = b.flash_value; bank_bound = b.bank_bound; bank_value = walk_to _ _ _ _ _ c.kind-kind.ensures (omega arith) (elim c.in-4-1.branch [ then-kind-lt6 w ↦ inl (omega arith) | else-kind-lt6+else-kind-lt8+then-kind-lt10 w ↦ inr (omega arith, omega arith) ]) b.bank_value }
 
 pub other_button-requires : goal.other_button-requires
 other_button-requires c = let b = c.requires in
-    record { profile_value = b.profile_value; count_bound = b.count_bound; count_bound_2 = b.count_bound_2; bank_bound = low-bank _ _ b.profile_value b.bank_bound; hushed_bound = b.hushed_bound; flash_value = b.flash_value; bank_value = b.bank_value; note_value = other-kind _ _ c.kind-kind.ensures (elim c.in_default.branch [ in_default-via-then-kind-lt1 w ↦ inl (omega arith) | in_default-via-else-kind-lt1+else-kind-lt3+then-kind-lt4 w ↦ inr (inl (omega arith, omega arith)) | in_default-via-else-kind-lt1+else-kind-lt3+else-kind-lt4+else-kind-lt6+else-kind-lt8+else-kind-lt10 w ↦ inr (inr (omega arith)) ]) }
+    record { profile_value = b.profile_value; count_bound = b.count_bound; count_bound_2 = b.count_bound_2; bank_bound = low_bank _ _ b.profile_value b.bank_bound; hushed_bound = b.hushed_bound; flash_value = b.flash_value; bank_value = b.bank_value; note_value = other-kind _ _ c.kind-kind.ensures (elim c.in_default.branch [ in_default-via-then-kind-lt1 w ↦ inl (omega arith) | in_default-via-else-kind-lt1+else-kind-lt3+then-kind-lt4 w ↦ inr (inl (omega arith, omega arith)) | in_default-via-else-kind-lt1+else-kind-lt3+else-kind-lt4+else-kind-lt6+else-kind-lt8+else-kind-lt10 w ↦ inr (inr (omega arith)) ]) }
 
 pub returns-in-1 : goal.returns-in-1
 returns-in-1 c = let a = c.args in

@@ -5,14 +5,14 @@ use lib.ListN.{length}
 use Rattle.drivers.specs.Shown.{shown}
 use Rattle.session.specs.Session.{hushed_up_to}
 use Rattle.rig.specs.Seen.{rig_in}
-use Rattle.bridge.proofs.ButtonsLaws.{soloes, mutes, solo-fits, room-for-mute}
+use Rattle.bridge.proofs.ButtonsLaws.{soloes, mutes, solo_fits, room_for_mute}
 use Rattle.bridge.proofs.buttons.hush.Goals as goal
 
 pub solo-m-requires : goal.solo-m-requires
 solo-m-requires c = let start = c in
     let a = start.args in
     let fits =
-    solo-fits (rig_in a.profile.now a.here) a.fader a.lamps a.solo (hushed_up_to a.hushed a.targets.now a.levels.now)
+    solo_fits (rig_in a.profile.now a.here) a.fader a.lamps a.solo (hushed_up_to a.hushed a.targets.now a.levels.now)
     start.requires.levels_len_bound c.if-solo.true in
     record { count_bound = start.requires.count_bound; hushed_bound = start.requires.hushed_bound; levels_value = start.requires.levels_value; levels_len_bound = fits }
 
@@ -33,7 +33,7 @@ mute-m-requires c = let start = c in
     let long : length a.levels.now ≡ 256 = c.ls-2-1.given in
     let few : a.hushed ≤ 256 = start.requires.hushed_bound in
     let room =
-    room-for-mute (rig_in a.profile.now a.here) a.fader a.lamps a.solo a.hushed a.targets.now a.levels.now (omega arith)
+    room_for_mute (rig_in a.profile.now a.here) a.fader a.lamps a.solo a.hushed a.targets.now a.levels.now (omega arith)
     c.if-solo.false start.requires.levels_value start.requires.levels_len_bound in
     record { count_bound = start.requires.count_bound; hushed_bound = few; targets_value = room }
 

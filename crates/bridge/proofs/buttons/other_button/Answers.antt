@@ -1,5 +1,5 @@
 use mathlib.Core.Path.{sym, ◌∙◌}
-use Rattle.bridge.proofs.PressLaws.{bank-selected, other-rec, other-select, other-command}
+use Rattle.bridge.proofs.PressLaws.{bank_selected, other-rec, other-select, other-command}
 use Rattle.bridge.proofs.buttons.other_button.Goals as goal
 
 pub rec-requires : goal.rec-requires
@@ -8,7 +8,7 @@ rec-requires c = let b = c.requires in
 
 pub select-requires : goal.select-requires
 select-requires c = let b = c.requires in
-    record { count_bound = b.count_bound; count_bound_2 = b.count_bound_2; hushed_bound = b.hushed_bound; flash_value = b.flash_value; bank_value = b.bank_value ∙ sym (bank-selected _ _ _ _ c.kind.ensures _ c.channel_of-channel.ensures.value c.in-3.is) }
+    record { count_bound = b.count_bound; count_bound_2 = b.count_bound_2; hushed_bound = b.hushed_bound; flash_value = b.flash_value; bank_value = b.bank_value ∙ sym (bank_selected _ _ _ _ c.kind.ensures _ c.channel_of-channel.ensures.value c.in-3.is) }
 
 pub returns-in-0 : goal.returns-in-0
 returns-in-0 c = other-rec _ _ _ _ _ _ _ _ _ c.rec.result _ _ _ c.kind.ensures c.channel_of-channel.ensures.value _ c.in-0.is c.requires.bank_value c.rec.ensures

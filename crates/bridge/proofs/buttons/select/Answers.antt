@@ -1,7 +1,7 @@
 use mathlib.Core.Path.{refl}
 use lib.ListN.{take}
 use Rattle.drivers.specs.Shown.{shown}
-use Rattle.bridge.proofs.ButtonsLaws.{select-command, selects-none, selects-bank}
+use Rattle.bridge.proofs.ButtonsLaws.{select-command, selects-none, selects_bank}
 use Rattle.bridge.proofs.buttons.select.Goals as goal
 
 pub returns-then-not-select_is_bank : goal.returns-then-not-select_is_bank
@@ -30,7 +30,7 @@ returns c = let start = c in
     let has = c.has_bank in
     let k = c.select_bank-s in
     let x = c.of_bank in
-    selects-bank a.profile.now a.here a.lamps a.hushed (take a.hushed a.targets.now) a.home a.time
+    selects_bank a.profile.now a.here a.lamps a.hushed (take a.hushed a.targets.now) a.home a.time
     (shown a.answers.now a.io a.calls.now a.messages.now) a.answers.now k.new.calls k.new.messages x.result a.there
     a.channel is-bank.result is-bank.ensures has.result has.ensures c.if-not-select_is_bank.false-raw
     _ c.if-not-has_bank.false-raw start.requires.bank_value k.ensures x.ensures

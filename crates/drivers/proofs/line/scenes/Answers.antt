@@ -1,11 +1,11 @@
-use Rattle.drivers.proofs.Laws.{plain-listing}
+use Rattle.drivers.proofs.Laws.{plain_listing}
 use Rattle.drivers.specs.Shown.{reply_in}
 use Rattle.drivers.specs.Talk.{scenes_of, next}
 use borrow.Author.Rules.{rules}
 use Rattle.drivers.proofs.line.scenes.Goals as goal
 
 pub names_of-names-requires : goal.names_of-names-requires
-names_of-names-requires c = plain-listing _ _ _ _ _ _ _ _ c.plain-c.ensures c.use_call-g.ensures.listing
+names_of-names-requires c = plain_listing _ _ _ _ _ _ _ _ c.plain-c.ensures c.use_call-g.ensures.listing
 
 pub returns : goal.returns
 unfolding scenes_of next reply_in

@@ -1,4 +1,4 @@
-use Rattle.drivers.proofs.Laws.{no-listing}
+use Rattle.drivers.proofs.Laws.{no_listing}
 use Rattle.drivers.specs.Answers.{items_of}
 use Rattle.drivers.specs.Shown.{reply_in}
 use Rattle.drivers.specs.Talk.{use_call, next}
@@ -23,5 +23,5 @@ returns c = record {
     ← c.open_for-t.ensures,
     c.if-t.false,
   );
-  listing = no-listing _ _ _;
+  listing = no_listing _ _ _;
 }

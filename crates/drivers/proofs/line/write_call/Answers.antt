@@ -1,5 +1,5 @@
 use mathlib.Core.Path.{ap}
-use Rattle.drivers.proofs.Laws.{stores, stores-length}
+use Rattle.drivers.proofs.Laws.{stores, stores_length}
 use lib.ListN.{length-set, length}
 use native.Mathlib.Omega.{arith}
 use Rattle.drivers.proofs.line.write_call.Goals as goal
@@ -18,7 +18,7 @@ put_u64-requires c = omega (arith, simp length-set at (ap length c.put_u16.ensur
 
 pub shape_of-part : goal.shape_of-part
 shape_of-part c = let a = c.args in
-    rw (c.put_u64.ensures, c.put_u32.ensures, c.put_u16.ensures) (stores-length a.part.now a.c)
+    rw (c.put_u64.ensures, c.put_u32.ensures, c.put_u16.ensures) (stores_length a.part.now a.c)
 
 pub returns : goal.returns
 returns c = let a = c.args in

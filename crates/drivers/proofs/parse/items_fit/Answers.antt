@@ -1,14 +1,14 @@
 use mathlib.Core.Path.{sym, ◌∙◌}
 use native.Mathlib.Omega.{arith}
 use borrow.Author.Tests.{not-true, not-false}
-use Rattle.base.specs.RangeLaws.{all_none, all_more, all_done, all-stop}
+use Rattle.base.specs.RangeLaws.{all_none, all_more, all_done, all_stop}
 use Rattle.drivers.proofs.parse.items_fit.Goals as goal
 
 pub loop-i-init : goal.loop-i-init
 loop-i-init c = (omega arith, all_none _)
 
 pub returns-then-not-item_fits : goal.returns-then-not-item_fits
-returns-then-not-item_fits c = all-stop _ _ _ c.loop-i-test.true (sym c.item_fits.ensures ∙ not-true c.item_fits.result c.if-not-item_fits.true-raw)
+returns-then-not-item_fits c = all_stop _ _ _ c.loop-i-test.true (sym c.item_fits.ensures ∙ not-true c.item_fits.result c.if-not-item_fits.true-raw)
 
 pub loop-i-preserved : goal.loop-i-preserved
 loop-i-preserved c = (omega arith, all_more _ _ c.loop-i.invariant.1 (sym c.item_fits.ensures ∙ not-false c.item_fits.result c.if-not-item_fits.false-raw))

@@ -1,14 +1,14 @@
 use mathlib.Core.Path.{sym, ◌∙◌}
 use native.Mathlib.Omega.{arith}
 use borrow.Author.Tests.{not-true, not-false}
-use Rattle.base.specs.RangeLaws.{all_none, all_more, all_done, all-stop}
+use Rattle.base.specs.RangeLaws.{all_none, all_more, all_done, all_stop}
 use Rattle.drivers.proofs.parse.lives_fit.Goals as goal
 
 pub loop-i-init : goal.loop-i-init
 loop-i-init c = (omega arith, all_none _)
 
 pub returns-then-not-live_fits : goal.returns-then-not-live_fits
-returns-then-not-live_fits c = all-stop _ _ _ c.loop-i-test.true (sym c.live_fits.ensures ∙ not-true c.live_fits.result c.if-not-live_fits.true-raw)
+returns-then-not-live_fits c = all_stop _ _ _ c.loop-i-test.true (sym c.live_fits.ensures ∙ not-true c.live_fits.result c.if-not-live_fits.true-raw)
 
 pub loop-i-preserved : goal.loop-i-preserved
 loop-i-preserved c = (omega arith, all_more _ _ c.loop-i.invariant.1 (sym c.live_fits.ensures ∙ not-false c.live_fits.result c.if-not-live_fits.false-raw))

@@ -6,12 +6,12 @@ use native.Mathlib.Omega.{arith}
 use lib.ListN.{length, get_or}
 use Rattle.session.specs.Session.{is_encoder}
 use Rattle.base.specs.KeyedLaws.{each}
-use Rattle.hands.proofs.Laws.{no-nudge, one-nudge, all-nudges}
+use Rattle.hands.proofs.Laws.{no_nudge, one-nudge, all-nudges}
 use borrow.Author.Rules.{rules}
 use Rattle.hands.proofs.encoders.drain_turns.Goals as goal
 
 pub loop-i-init : goal.loop-i-init
-loop-i-init c = let b = c in (search rules, no-nudge b.args.profile.now b.args.records.now b.args.sums.now _)
+loop-i-init c = let b = c in (search rules, no_nudge b.args.profile.now b.args.records.now b.args.sums.now _)
 
 pub apply_nudge-w-requires : goal.apply_nudge-w-requires
 apply_nudge-w-requires c =

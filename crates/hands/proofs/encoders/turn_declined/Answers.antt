@@ -12,7 +12,7 @@ use Rattle.base.specs.Keyed.{at}
 use Rattle.base.specs.RangeLaws.{and_left}
 use Rattle.lookup.specs.Lookup.{dest_at}
 use Rattle.session.specs.Session.{wires_to}
-use Rattle.hands.proofs.Laws.{leaves, out_of_range, within-range, no_place, a-place}
+use Rattle.hands.proofs.Laws.{leaves, out_of_range, within_range, no_place, a_place}
 use Rattle.hands.proofs.encoders.turn_declined.Goals as goal
 
 pub destination_at-d-requires : goal.destination_at-d-requires
@@ -42,7 +42,7 @@ returns-then-i-n c =
     let f = c in
     let b = f in
     let w : f.find_turn-i.result ≡ at (wires_to b.args.profile.now (dest_at b.args.profile.now b.args.k)) (take b.args.n b.args.records.now) = place b.args.profile.now b.args.records.now b.args.n b.args.k _ _ f.destination_at-d.ensures f.find_turn-i.ensures in
-    within-range b.args.profile.now b.args.records.now b.args.sums.now b.args.n f.find_turn-i.result (dest_at b.args.profile.now b.args.k) b.args.delta c.ks-1.given c.ns-1.given b.requires.n_bound w c.leaves_range.result c.if-i-n.true (leaves c.leaves_range.result (get_or b.args.sums.now f.find_turn-i.result (pos 0)) b.args.delta _ _ (to_z-of_z w32 (get_or b.args.sums.now f.find_turn-i.result (pos 0)) (record { sfits = c.leaves_range-arg-1.given })) (to_z-of_z w32 b.args.delta b.ranges.delta) c.leaves_range.ensures) c.if-leaves_range.false
+    within_range b.args.profile.now b.args.records.now b.args.sums.now b.args.n f.find_turn-i.result (dest_at b.args.profile.now b.args.k) b.args.delta c.ks-1.given c.ns-1.given b.requires.n_bound w c.leaves_range.result c.if-i-n.true (leaves c.leaves_range.result (get_or b.args.sums.now f.find_turn-i.result (pos 0)) b.args.delta _ _ (to_z-of_z w32 (get_or b.args.sums.now f.find_turn-i.result (pos 0)) (record { sfits = c.leaves_range-arg-1.given })) (to_z-of_z w32 b.args.delta b.ranges.delta) c.leaves_range.ensures) c.if-leaves_range.false
 
 pub returns-then-ks-n : goal.returns-then-ks-n
 returns-then-ks-n c =
@@ -56,4 +56,4 @@ returns c =
     let f = c in
     let b = f in
     let w : f.find_turn-i.result ≡ at (wires_to b.args.profile.now (dest_at b.args.profile.now b.args.k)) (take b.args.n b.args.records.now) = place b.args.profile.now b.args.records.now b.args.n b.args.k _ _ f.destination_at-d.ensures f.find_turn-i.ensures in
-    a-place b.args.profile.now b.args.records.now b.args.sums.now b.args.n f.find_turn-i.result (dest_at b.args.profile.now b.args.k) b.args.delta c.ks-1.given c.ns-1.given b.requires.n_bound w c.if-i-n.false (omega (arith, c.ks-1.given))
+    a_place b.args.profile.now b.args.records.now b.args.sums.now b.args.n f.find_turn-i.result (dest_at b.args.profile.now b.args.k) b.args.delta c.ks-1.given c.ns-1.given b.requires.n_bound w c.if-i-n.false (omega (arith, c.ks-1.given))

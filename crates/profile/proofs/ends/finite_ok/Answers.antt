@@ -2,9 +2,9 @@
 use mathlib.Core.Path.{sym, ◌∙◌}
 use native.Mathlib.Omega.{arith}
 use borrow.Author.Tests.{not-true, not-false}
-use Rattle.base.specs.RangeLaws.{all_none, all_more, all_done, all-stop}
+use Rattle.base.specs.RangeLaws.{all_none, all_more, all_done, all_stop}
 use Rattle.profile.specs.Profile.{finite_ok}
-use Rattle.profile.proofs.Behind.{finite-past, all-ordered}
+use Rattle.profile.proofs.Behind.{finite_past, all-ordered}
 use borrow.Author.Rules.{rules}
 use Rattle.profile.proofs.ends.finite_ok.Goals as goal
 
@@ -13,11 +13,11 @@ loop-k-init c = (search rules, all_none _)
 
 pub returns-then-byte-gt3 : goal.returns-then-byte-gt3
 returns-then-byte-gt3 c = let at = c in
-    finite-past _ at.loop-k.k (all-ordered _ at.requires) (omega arith) (omega (arith, c.byte.ensures)) at.loop-k.invariant.1
+    finite_past _ at.loop-k.k (all-ordered _ at.requires) (omega arith) (omega (arith, c.byte.ensures)) at.loop-k.invariant.1
 
 pub returns-then-not-ends_finite : goal.returns-then-not-ends_finite
 unfolding finite_ok
-returns-then-not-ends_finite c = all-stop _ _ _ (omega arith) (sym c.ends_finite.ensures ∙ not-true _ c.if-not-ends_finite.true-raw)
+returns-then-not-ends_finite c = all_stop _ _ _ (omega arith) (sym c.ends_finite.ensures ∙ not-true _ c.if-not-ends_finite.true-raw)
 
 pub loop-k-preserved : goal.loop-k-preserved
 loop-k-preserved c = (search rules, all_more _ _ c.loop-k.invariant.1 (sym c.ends_finite.ensures ∙ not-false _ c.if-not-ends_finite.false-raw))

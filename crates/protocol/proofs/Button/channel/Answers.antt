@@ -1,14 +1,14 @@
 use mathlib.Core.Path.{sym, ◌∙◌}
 use native.Mathlib.Omega.{arith}
-use Rattle.protocol.proofs.Laws.{base-at}
+use Rattle.protocol.proofs.Laws.{base_at}
 use Rattle.protocol.specs.Protocol.{channel_of}
 use Rattle.protocol.proofs.Button.channel.Goals as goal
 
 pub channel_base-requires : goal.channel_base-requires
-channel_base-requires c = (base-at _ _ (sym c.base_of.ensures ∙ c.in-At.is)).0
+channel_base-requires c = (base_at _ _ (sym c.base_of.ensures ∙ c.in-At.is)).0
 
 pub overflow_sub-result : goal.overflow_sub-result
-overflow_sub-result c = omega (arith, (base-at _ _ (sym c.base_of.ensures ∙ c.in-At.is)).1, c.channel_base.ensures)
+overflow_sub-result c = omega (arith, (base_at _ _ (sym c.base_of.ensures ∙ c.in-At.is)).1, c.channel_base.ensures)
 
 pub returns-in-At : goal.returns-in-At
 unfolding channel_of

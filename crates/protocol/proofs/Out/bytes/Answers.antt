@@ -1,5 +1,5 @@
 use Rattle.protocol.specs.Protocol.{bytes_of, decode_of, heard_of, velocity_of}
-use Rattle.protocol.proofs.Back.{reads-back}
+use Rattle.protocol.proofs.Back.{reads_back}
 use Rattle.protocol.specs.declared.Out.{Out}
 use Rattle.protocol.specs.declared.Out.TheVariants.{Led, Position}
 use Prim.Native.Nat.{ℕ, ◌+◌, ◌%◌, ◌/◌}
@@ -9,7 +9,7 @@ use mathlib.Core.Path.{◌≡◌, ap, ◌∙◌}
 use Rattle.protocol.proofs.Out.bytes.Goals as goal
 
 both : (out : Out) (r : List ℕ) → r ≡ bytes_of out → (r ≡ bytes_of out) × (decode_of r ≡ heard_of out)
-both out r e = (e, ap decode_of e ∙ reads-back out)
+both out r e = (e, ap decode_of e ∙ reads_back out)
 
 lamp : (out : Out) (note v : ℕ) (on : Bool) → out ≡ Led note on → v ≡ velocity_of on → 0x90 ∷ note ∷ v ∷ [] ≡ bytes_of out
 unfolding bytes_of

@@ -2,12 +2,12 @@ use mathlib.Core.Path.{◌≡◌, ap, ◌∙◌}
 use native.Mathlib.Omega.{arith}
 use Rattle.lookup.specs.Lookup.{most_common}
 use Rattle.definition.specs.Rig.{own_drivers, bank_driver}
-use Rattle.rig.proofs.Laws.{no-drivers, one-driver}
+use Rattle.rig.proofs.Laws.{no_drivers, one-driver}
 use borrow.Author.Rules.{rules}
 use Rattle.rig.proofs.here.bank_driver.Goals as goal
 
 pub loop-n-init : goal.loop-n-init
-loop-n-init c = (no-drivers _, omega arith, omega arith)
+loop-n-init c = (no_drivers _, omega arith, omega arith)
 
 pub loop-n-preserved : goal.loop-n-preserved
 loop-n-preserved c = let at = c.loop-n in

@@ -1,6 +1,6 @@
 use Rattle.lookup.specs.Known.{known-device}
 use Rattle.definition.specs.Rig.{device}
-use Rattle.rig.proofs.Laws.{low-driver}
+use Rattle.rig.proofs.Laws.{low_driver}
 use borrow.Author.Tests.{eq-eqb, ne_eqb}
 use Rattle.rig.proofs.here.device.Goals as goal
 
@@ -12,4 +12,4 @@ pub returns : goal.returns
 unfolding device
 returns c =
     let own = c.device_of-own in
-    record { value = rw (← own.ensures, ne_eqb _ _ c.if-own.false); may_be_driver = low-driver _ (known-device _ c.requires.profile_value _) own.ensures }
+    record { value = rw (← own.ensures, ne_eqb _ _ c.if-own.false); may_be_driver = low_driver _ (known-device _ c.requires.profile_value _) own.ensures }

@@ -1,7 +1,7 @@
 use Prim.Native.Nat.{◌≤◌, ◌<◌}
 use mathlib.Core.Path.{refl}
 use native.Mathlib.Omega.{arith}
-use Rattle.scenes.proofs.Laws.{loads-none, in_list, one_byte, is-there, not-loaded, loads, load-flash}
+use Rattle.scenes.proofs.Laws.{loads-none, in_list, one_byte, is_there, not-loaded, loads, load-flash}
 use Rattle.scenes.proofs.load.load_scene_at.Goals as goal
 
 pub returns-then-name-offer : goal.returns-then-name-offer
@@ -20,7 +20,7 @@ overflow_cast-name c = let test = c in
     let name = test.device-name in
     let asked = test in
     let i = asked.args.i in
-    let there = is-there name.result asked.scene_names-g.result.offer.count i test.if-name-offer.false in
+    let there = is_there name.result asked.scene_names-g.result.offer.count i test.if-name-offer.false in
     let low : name.result ≤ 255 = one_byte name.result name.ensures.may_be_driver there in
     omega arith
 

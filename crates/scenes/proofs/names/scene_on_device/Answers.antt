@@ -1,11 +1,11 @@
 use Prim.Native.Nat.{◌≤◌}
 use mathlib.Core.Path.{refl}
 use native.Mathlib.Omega.{arith}
-use Rattle.scenes.proofs.Laws.{off-device, one_byte, cannot-say, says-low}
+use Rattle.scenes.proofs.Laws.{off_device, one_byte, cannot_say, says_low}
 use Rattle.scenes.proofs.names.scene_on_device.Goals as goal
 
 pub returns-then-name : goal.returns-then-name
-returns-then-name c = record { messages_after = off-device _ _ _ c.device-name.result c.device-name.ensures.value c.if-name.true; place_value = refl }
+returns-then-name c = record { messages_after = off_device _ _ _ c.device-name.result c.device-name.ensures.value c.if-name.true; place_value = refl }
 
 pub overflow_cast-name : goal.overflow_cast-name
 overflow_cast-name c = let name = c.device-name in
@@ -15,7 +15,7 @@ overflow_cast-name c = let name = c.device-name in
 pub returns-in_default : goal.returns-in_default
 returns-in_default c = let test = c in
     let name = test.device-name in
-    record { messages_after = cannot-say _ _ _ name.result name.ensures.value test.if-name.false _ _ c.current_scene-g.ensures c.in_default.is; place_value = refl }
+    record { messages_after = cannot_say _ _ _ name.result name.ensures.value test.if-name.false _ _ c.current_scene-g.ensures c.in_default.is; place_value = refl }
 
 pub overflow_cast-name-2 : goal.overflow_cast-name-2
 overflow_cast-name-2 c = let test = c in
@@ -33,5 +33,5 @@ returns c = let list = c.scenes-all in
     let test = asked in
     let name = test.device-name in
     let start = test in
-    let told = says-low _ start.args.here _ start.requires.offers _ name.result name.ensures.value test.if-name.false _ _ asked.current_scene-g.ensures _ _ _ _ _ arm.in-At.is
+    let told = says_low _ start.args.here _ start.requires.offers _ name.result name.ensures.value test.if-name.false _ _ asked.current_scene-g.ensures _ _ _ _ _ arm.in-At.is
     list.ensures.messages_after c.place_of-p.ensures in record { messages_after = told.0; place_value = told.1 }

@@ -3,7 +3,7 @@ use native.Mathlib.Omega.{arith}
 use native.Mathlib.Numerals.{add-one}
 use Rattle.base.specs.KeyedLaws as laws
 use Rattle.lookup.specs.Lookup.{same_dest}
-use Rattle.session.specs.SessionLaws.{encoder-in-file}
+use Rattle.session.specs.SessionLaws.{encoder_in_file}
 use borrow.Author.Rules.{rules}
 use Rattle.session.proofs.desk.find_in.Goals as goal
 
@@ -16,7 +16,7 @@ overflow_cast-records c = omega (arith, c.shared_slice_known-in-loop-i-1.given c
 pub destination_at-d-requires : goal.destination_at-d-requires
 destination_at-d-requires c =
     let b = c in
-    encoder-in-file b.args.profile.now b.args.records.now b.args.n c.loop-i.i b.requires.n_in_bounds (omega arith) b.requires.records_value
+    encoder_in_file b.args.profile.now b.args.records.now b.args.n c.loop-i.i b.requires.n_in_bounds (omega arith) b.requires.records_value
 
 pub returns-then-same : goal.returns-then-same
 returns-then-same c =

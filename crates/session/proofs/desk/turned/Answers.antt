@@ -9,7 +9,7 @@ use Rattle.base.specs.Keyed.{at}
 use Rattle.base.specs.RangeLaws.{and_left}
 use Rattle.lookup.specs.Lookup.{dest_at}
 use Rattle.session.specs.Session.{wires_to}
-use Rattle.session.proofs.Laws.{sum-there, at-end, sum-behind, encoders-behind}
+use Rattle.session.proofs.Laws.{sum_there, at-end, sum_behind, encoders_behind}
 use mir.Syntax.{w32}
 use mir.ValLaws.{to_z-of_z}
 use lib.IntN.{pos, ◌+ℤ◌}
@@ -42,7 +42,7 @@ returns-then-i-n c =
       to_z-of_z w32 b.args.delta b.ranges.delta,
       to_z-of_z w32 (v +ℤ b.args.delta) (b.requires.sums f.result c.if-i-n.true),
     ) (record {
-      sums_after = sum-there b.args.profile.now b.args.records.now b.args.sums.now b.args.n b.args.k f.result b.args.delta c.ks-1.given.0.1 c.ns-1.given.0.1 b.requires w c.if-i-n.true;
+      sums_after = sum_there b.args.profile.now b.args.records.now b.args.sums.now b.args.n b.args.k f.result b.args.delta c.ks-1.given.0.1 c.ns-1.given.0.1 b.requires w c.if-i-n.true;
       records_after = b.requires.encoders;
       upper_bound = b.requires.count;
     })
@@ -78,7 +78,7 @@ returns c =
     let w : c.find_in-i.result ≡ at (wires_to c.args.profile.now (dest_at c.args.profile.now c.args.k)) (take c.args.n c.args.records.now) = place c.args.profile.now c.args.records.now c.args.n c.args.k _ _ c.destination_at-d.ensures c.find_in-i.ensures in
     let inside : (c.find_in-i.result ≡ c.args.n) × (c.args.n < 136) = at-end c.args.profile.now c.args.records.now c.args.sums.now c.args.n c.args.k c.find_in-i.result c.args.delta c.ks-1.given.0.1 c.ns-1.given.0.1 c.requires w c.if-i-n.false in
     rw (to_z-of_z w32 b.args.delta b.ranges.delta) (record {
-      sums_after = sum-behind b.args.profile.now b.args.records.now b.args.sums.now b.args.n b.args.k f.result b.args.delta c.ks-1.given.0.1 c.ns-1.given.0.1 b.requires w c.if-i-n.false;
-      records_after = encoders-behind b.args.profile.now b.args.records.now b.args.sums.now b.args.n b.args.k f.result b.args.delta c.ks-1.given.0.1 c.ns-1.given.0.1 b.requires w c.if-i-n.false;
+      sums_after = sum_behind b.args.profile.now b.args.records.now b.args.sums.now b.args.n b.args.k f.result b.args.delta c.ks-1.given.0.1 c.ns-1.given.0.1 b.requires w c.if-i-n.false;
+      records_after = encoders_behind b.args.profile.now b.args.records.now b.args.sums.now b.args.n b.args.k f.result b.args.delta c.ks-1.given.0.1 c.ns-1.given.0.1 b.requires w c.if-i-n.false;
       upper_bound = omega arith;
     })

@@ -8,7 +8,7 @@ use lib.Dec.{ltb}
 use borrow.Author.Tests.{ltb-true}
 use Rattle.base.specs.RangeLaws.{and_left, and_right}
 use Rattle.base.specs.KeyedLaws as laws
-use Rattle.session.proofs.Laws.{first-yes, first-no}
+use Rattle.session.proofs.Laws.{first_yes, first_no}
 use Rattle.session.specs.SessionLaws.{is_known}
 use Rattle.session.specs.Session.{seen_strips, strip_of, strips_of, on_surface}
 use Rattle.drivers.specs.declared.LiveFader.{LiveFader}
@@ -35,7 +35,7 @@ loop-j-preserved-then-takes c = let p = c.loop-j in
     let f = c.on_surface in
     let h = ltb-true p.k 8 (and_right f.result (ltb p.k 8) c.if-takes.true) in
     let g = sym f.ensures ∙ and_left f.result (ltb p.k 8) c.if-takes.true in
-    let e = first-yes on_surface (strip_of _) no_fader 8 p.t.list xs p.k p.j p.invariant.3 p.invariant.1 p.invariant.4 h (omega arith) g in
+    let e = first_yes on_surface (strip_of _) no_fader 8 p.t.list xs p.k p.j p.invariant.3 p.invariant.1 p.invariant.4 h (omega arith) g in
     (omega arith, omega arith, p.invariant.2, simp length-set p.invariant.3, rw c.strip_of-s.ensures e)
 
 pub loop-j-preserved : goal.loop-j-preserved
@@ -44,7 +44,7 @@ loop-j-preserved c = let p = c.loop-j in
     let l : length xs ≡ 32 = search laws.long in
     let f = c.on_surface in
     let g : on_surface (get_or xs p.j no_fader) && ltb p.k 8 ≡ false = rw (← f.ensures) c.if-takes.false in
-    let e = first-no on_surface (strip_of _) no_fader 8 p.t.list xs p.k p.j p.invariant.3 p.invariant.1 p.invariant.4 (omega arith) g in
+    let e = first_no on_surface (strip_of _) no_fader 8 p.t.list xs p.k p.j p.invariant.3 p.invariant.1 p.invariant.4 (omega arith) g in
     (omega arith, p.invariant.1, p.invariant.2, p.invariant.3, e)
 
 pub returns : goal.returns

@@ -2,7 +2,7 @@
 use lib.ListN.{take}
 use borrow.Author.Tests.{eq-eqb, ne_eqb}
 use Rattle.definition.specs.Muting.{added_by_solo}
-use Rattle.solos.proofs.AddsLaws.{same-adds}
+use Rattle.solos.proofs.AddsLaws.{same_adds}
 use Rattle.solos.proofs.adds.added_by_solo.Goals as goal
 
 pub returns-in_default : goal.returns-in_default
@@ -16,5 +16,5 @@ returns-then-lamps-fader c = rw (← c.destination.ensures, c.in-To.is, eq-eqb _
 pub returns : goal.returns
 unfolding added_by_solo
 returns c = let b = c in
-    let e = same-adds _ _ b.args.fader (take b.args.hushed b.args.targets.now) 16 c.peers_of-peers.ensures in
+    let e = same_adds _ _ b.args.fader (take b.args.hushed b.args.targets.now) 16 c.peers_of-peers.ensures in
     rw (← b.destination.ensures, c.in-To.is, ne_eqb _ _ c.if-lamps-fader.false, ← e) c.added_by_peers.ensures

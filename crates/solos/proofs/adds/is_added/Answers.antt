@@ -18,7 +18,7 @@ returns-then-added-i c = let b = c in
     let p = c.loop-i in
     let l : length s.list ≡ 16 = search laws.long in
     let e = laws.at-hit (is_same b.args.target) 0 s.list p.i s.count (omega arith) (omega arith) p.invariant.1 (eq-eqb _ _ c.if-added-i.true) in
-    sym (laws.is-there _ 0 s.list s.count p.i (sym e) (omega arith) (omega arith))
+    sym (laws.is_there _ 0 s.list s.count p.i (sym e) (omega arith) (omega arith))
 
 pub loop-i-preserved : goal.loop-i-preserved
 loop-i-preserved c = let s = c.args.added in

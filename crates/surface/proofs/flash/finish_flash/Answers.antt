@@ -1,4 +1,4 @@
-use Rattle.surface.proofs.Laws.{note-of, no_end, ends}
+use Rattle.surface.proofs.Laws.{note_of_lem, no_end, ends}
 use borrow.Author.Tests.{not-true, not-false}
 use Rattle.surface.proofs.flash.finish_flash.Goals as goal
 
@@ -7,7 +7,7 @@ returns-then-not-flash c = no_end _ _ _ _ _ (not-true _ c.if-not-flash.true)
 
 pub send_phases-a-requires : goal.send_phases-a-requires
 send_phases-a-requires c = let b = c in
-    note-of b.args.lamps.flash b.requires.flash_value (not-false _ c.if-not-flash.false)
+    note_of_lem b.args.lamps.flash b.requires.flash_value (not-false _ c.if-not-flash.false)
 
 pub push_state-requires : goal.push_state-requires
 push_state-requires c = let b = c in

@@ -1,10 +1,10 @@
 use native.Mathlib.Omega.{arith}
-use Rattle.surface.proofs.Laws.{shows-none, shows}
+use Rattle.surface.proofs.Laws.{shows_none, shows}
 use Rattle.surface.proofs.flash.flash_number.Goals as goal
 
 pub returns-then-n-ge64 : goal.returns-then-n-ge64
 returns-then-n-ge64 c =
-    shows-none _ _ _ _ _ _ _ _ _ _ c.finish_flash-u.ensures c.if-n-ge64.true
+    shows_none _ _ _ _ _ _ _ _ _ _ c.finish_flash-u.ensures c.if-n-ge64.true
     (rw (← c.no_flash-none.ensures) c.flashing-off.ensures)
 
 pub send_phase-b-requires : goal.send_phase-b-requires

@@ -1,11 +1,11 @@
 use native.Mathlib.Omega.{arith}
 use Rattle.float.specs.LeafLaws.{due-most}
-use Rattle.surface.proofs.Laws.{note-of, no-tick, plays, plays-out, note-kept}
+use Rattle.surface.proofs.Laws.{note_of_lem, no_tick, plays, plays_out, note_kept}
 use borrow.Author.Tests.{not-true, not-false}
 use Rattle.surface.proofs.flash.tick_flash.Goals as goal
 
 pub returns-then-not-flash : goal.returns-then-not-flash
-returns-then-not-flash c = no-tick _ _ _ _ _ _ (not-true _ c.if-not-flash.true)
+returns-then-not-flash c = no_tick _ _ _ _ _ _ (not-true _ c.if-not-flash.true)
 
 pub overflow_cast-due : goal.overflow_cast-due
 overflow_cast-due c = let a = c.args in
@@ -13,7 +13,7 @@ overflow_cast-due c = let a = c.args in
 
 pub send_phases-u-requires : goal.send_phases-u-requires
 send_phases-u-requires c = let b = c in
-    note-of b.args.lamps.flash b.requires.flash_value (not-false _ c.if-not-flash.false)
+    note_of_lem b.args.lamps.flash b.requires.flash_value (not-false _ c.if-not-flash.false)
 
 pub returns-then-not-flash_over : goal.returns-then-not-flash_over
 returns-then-not-flash_over c = let k = c in
@@ -23,10 +23,10 @@ returns-then-not-flash_over c = let k = c in
 pub finish_flash-v-requires : goal.finish_flash-v-requires
 finish_flash-v-requires c = let k = c in
     let b = k in
-    record { count_bound = b.requires.count_bound; hushed_bound = b.requires.hushed_bound; flash_value = note-kept b.args.lamps _ _ _ k.sent_up_to-sent.ensures k.flashing-l.ensures b.requires.flash_value }
+    record { count_bound = b.requires.count_bound; hushed_bound = b.requires.hushed_bound; flash_value = note_kept b.args.lamps _ _ _ k.sent_up_to-sent.ensures k.flashing-l.ensures b.requires.flash_value }
 
 pub returns : goal.returns
 returns c = let k = c in
-    plays-out _ _ _ _ _ _ _ _ _ _ k.due-due.ensures k.send_phases-u.ensures k.sent_up_to-sent.ensures k.flashing-l.ensures _ _
+    plays_out _ _ _ _ _ _ _ _ _ _ k.due-due.ensures k.send_phases-u.ensures k.sent_up_to-sent.ensures k.flashing-l.ensures _ _
     (not-false _ k.if-not-flash.false) (rw (← c.flash_over.ensures) (not-false _ c.if-not-flash_over.false-raw)) c.finish_flash-v.ensures
     (rw (← c.no_flash-none.ensures) c.flashing-off.ensures)

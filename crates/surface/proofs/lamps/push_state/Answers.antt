@@ -1,10 +1,10 @@
 use native.Mathlib.Omega.{arith}
-use Rattle.surface.proofs.Laws.{no-fader, one-fader, all-faders}
+use Rattle.surface.proofs.Laws.{no_fader_lem, one-fader, all_faders}
 use borrow.Author.Rules.{rules}
 use Rattle.surface.proofs.lamps.push_state.Goals as goal
 
 pub loop-channel-init : goal.loop-channel-init
-loop-channel-init c = (no-fader _ _ _ _, omega arith)
+loop-channel-init c = (no_fader_lem _ _ _ _, omega arith)
 
 pub loop-channel-preserved : goal.loop-channel-preserved
 loop-channel-preserved c = let at = c.loop-channel in
@@ -12,4 +12,4 @@ loop-channel-preserved c = let at = c.loop-channel in
 
 pub returns : goal.returns
 returns c = let at = c.loop-channel in
-    all-faders _ _ _ _ at.channel _ (omega arith) at.invariant.0
+    all_faders _ _ _ _ at.channel _ (omega arith) at.invariant.0

@@ -131,8 +131,10 @@ def law_names():
         if path.endswith(".rt"):
             names |= set(re.findall(r"\bfn (\w+)", text))
             continue
+        # What one proof has for itself names nothing elsewhere.
+        is_shared = path.count("/") == 3
         for word, how in signatures(text):
-            (names if "abbrev" in how or "unfoldable" in how else laws).add(word)
+            (names if is_shared and ("abbrev" in how or "unfoldable" in how) else laws).add(word)
         for data in DATA.findall(text):
             names |= set(re.findall(r"(?m)^  (\S+) :", data))
     taken = names | laws
@@ -143,7 +145,7 @@ def law_names():
         out = parts[0]
         for a, b in zip(parts, parts[1:]):
             out += ("-" if a in plain and b in plain else "_") + b
-        return out
+        return out if out == word else joined(out)
 
     dashed = [w for w in sorted(names | laws) if "-" in w[1:-1]]
     new = {w: joined(w) for w in dashed if joined(w) != w}

@@ -108,7 +108,7 @@ def words():
         text = read(path)
         laws = laws_of(path, text) if path.endswith(".antt") else set()
         # What a file calls a name that it takes.
-        aliases = {w: snake(w) for w in re.findall(r" as ([a-z]\w*)", text) if is_camel(w)} if path.endswith(".rt") else {}
+        aliases = {w: snake(w) for w in re.findall(r" as ([a-z][^\s,};]*)", text) if is_camel(w)} if path.endswith((".rt", ".antt")) else {}
 
         def one(m):
             word = m[0]

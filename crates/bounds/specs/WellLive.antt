@@ -13,7 +13,7 @@ use Rattle.base.specs.Words.{le16}
 use Rattle.base.specs.Keyed.{any_of, all_of, no_twice}
 use Rattle.base.specs.Pigeon.{left_of_lem, right_of, all_so, all_append, once_append}
 use Rattle.drivers.specs.Answers.{count_at, item_at, items_of, item_fits, live_fits, list_if, live_list, to_live, answer_to, answer_of, item_count, is_unfit, is_list}
-use Rattle.drivers.specs.Talk.{Stop, going, waits, declined, overrun, Talk, next, Reply, ask_fit, ask_left, ask_room, ask_at, ask, ask_if as askWhen, open_for, use_call, plain_call, live_of}
+use Rattle.drivers.specs.Talk.{Stop, going, waits, declined, overrun, Talk, next, Reply, ask_fit, ask_left, ask_room, ask_at, ask, ask_if as ask_when, open_for, use_call, plain_call, live_of}
 use Rattle.drivers.specs.declared.Answer.{Answer}
 use Rattle.drivers.specs.declared.Answer.TheVariants as answer
 use Rattle.drivers.specs.declared.Call.{Call}
@@ -146,7 +146,7 @@ module _ (driver which : ℕ) (t : Talk) where
   at_once declined = none_once
   at_once overrun = none_once
 
-  when_once : (b : Bool) → Once (askWhen b call t).value
+  when_once : (b : Bool) → Once (ask_when b call t).value
   unfolding ask
   when_once true = at_once t.stop
   when_once false = none_once

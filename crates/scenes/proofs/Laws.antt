@@ -22,7 +22,7 @@ use Rattle.profile.specs.Accepted.{few_scenes}
 use Rattle.lookup.proofs.GatherLaws.{gather-length}
 use Rattle.lookup.specs.Lookup.{scenes_of, position}
 use Rattle.lookup.proofs.Known.{scenes-whole}
-use Rattle.drivers.specs.Talk.{Talk, Got, got, next, current_of, load_of, scenes_of as askScenes}
+use Rattle.drivers.specs.Talk.{Talk, Got, got, next, current_of, load_of, scenes_of as ask_scenes}
 use Rattle.drivers.specs.Shown.{seen_names, listed, shown}
 use Rattle.drivers.specs.declared.Io.{Io}
 use Rattle.drivers.specs.declared.Names.{Names}
@@ -101,7 +101,7 @@ module _ (p : List ℕ) (c : Current) (o : Offer) where
       unfolding scene_names
       no_device f k = rw (q, r, k, ← e, eq-eqb n 0 z, ← d, eq-eqb name 65535 f)
 
-      pub asks_device : (ok : Bool) (u : Talk) → (name ≡ 65535 → ⊥) → got (listed ok (seen_names s)) u ≡ askScenes name t →
+      pub asks_device : (ok : Bool) (u : Talk) → (name ≡ 65535 → ⊥) → got (listed ok (seen_names s)) u ≡ ask_scenes name t →
           got (seen_offer p c.bank o) u ≡ scene_names (here_in p c) t
       unfolding scene_names next
       asks_device ok u f g = rw (q, r, ← e, eq-eqb n 0 z, ← d, ne_eqb name 65535 f, ← g)
@@ -151,14 +151,14 @@ module _ (h : Here) (names : List ℕ) (t : Talk) (name : ℕ) (d : name ≡ dev
     unfolding scene_on_device next
     cannot_say e = rw (← d, ne_eqb name 65535 f, ← g, e)
 
-    says : (k : ℕ) (ok : Bool) (all : List ℕ) (v : Talk) (r : Place) → i ≡ index.At k → got (listed ok all) v ≡ askScenes name u → r ≡ place_of names k all →
+    says : (k : ℕ) (ok : Bool) (all : List ℕ) (v : Talk) (r : Place) → i ≡ index.At k → got (listed ok all) v ≡ ask_scenes name u → r ≡ place_of names k all →
         got r v ≡ scene_on_device h names t
     unfolding scene_on_device next
     says k ok all v r e a b = rw (← d, ne_eqb name 65535 f, ← g, e, ← a, b)
 
 -- and that place is one of 32 bits
 pub says_low : (p : List ℕ) (c : Current) (o : Offer) → Offers p c.bank o → (t : Talk) (name : ℕ) → name ≡ device (here_in p c) → (name ≡ 65535 → ⊥) → (i : Index) (u : Talk) →
-    got i u ≡ current_of name t → (k : ℕ) (ok : Bool) (all : List ℕ) (v : Talk) (r : Place) → i ≡ index.At k → got (listed ok all) v ≡ askScenes name u →
+    got i u ≡ current_of name t → (k : ℕ) (ok : Bool) (all : List ℕ) (v : Talk) (r : Place) → i ≡ index.At k → got (listed ok all) v ≡ ask_scenes name u →
     r ≡ place_of (seen_offer p c.bank o) k all → (got r v ≡ scene_on_device (here_in p c) (seen_offer p c.bank o) t) × (is_low r ≡ true)
 says_low p c o w t name d f i u g k ok all v r e a b =
     (says (here_in p c) (seen_offer p c.bank o) t name d f i u g k ok all v r e a b, place_low p c.bank o w k all r b)
@@ -200,7 +200,7 @@ module _ (name i : ℕ) (s : Names) (few : s.count ≤ 128) (long : length s.lis
       go (place.At j) w = low_at (place.At j) j (ap is_low w ∙ position_low name (seen_names s) (rw (names_length s few long) few)) refl
       go place.Nothing w = h
 
-module _ (driver name i : ℕ) (t : Talk) (ok : Bool) (l : List ℕ) (u : Talk) (g : got (listed ok l) u ≡ askScenes driver t) where
+module _ (driver name i : ℕ) (t : Talk) (ok : Bool) (l : List ℕ) (u : Talk) (g : got (listed ok l) u ≡ ask_scenes driver t) where
   pub not_listed : not ok ≡ true → got false u ≡ load_on driver name i t
   unfolding load_on next
   not_listed e = rw (← g, not-true ok e)

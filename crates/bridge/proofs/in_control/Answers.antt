@@ -8,7 +8,6 @@ use Rattle.bridge.proofs.Fit.{bank_low, line_is, line_few, live_is}
 use Rattle.bridge.proofs.HandLaws.{in_control}
 use Rattle.bridge.proofs.in_control.Goals as goal
 
--- `bridge::in_control` meets its contract. Assumes nothing.
 pub current_bank-here-requires : goal.current_bank-here-requires
 current_bank-here-requires c =
     let b = c in

@@ -4,7 +4,6 @@ use Rattle.lookup.specs.View.{view_of}
 use Rattle.bridge.specs.Acts.{behind}
 use Rattle.bridge.proofs.ticked.Goals as goal
 
--- `bridge::ticked` meets its contract. Assumes nothing.
 pub drain-u-requires : goal.drain-u-requires
 drain-u-requires c =
     let b = c in

@@ -7,7 +7,6 @@ use lib.Ieee.Back.{whole_unique}
 use Rattle.float.specs.Leaf.{abs_of, f0}
 use Rattle.float.proofs.abs.Goals as goal
 
--- `abs` drops the sign. Below zero the value is negated, a zero of either sign is +0, and what is left has no sign.
 none : (a d : ℕ) → ltb a (0 * d) ≡ true → ⊥
 none a d h = omega (arith, ltb-true a (0 * d) h)
 

@@ -7,7 +7,6 @@ use Rattle.float.specs.Leaf.{due_of, blink}
 use Rattle.float.proofs.Floor.{same_cast}
 use Rattle.float.proofs.due.Goals as goal
 
--- `due` meets its contract: the cast alone does what `floor`, `max` and the cast do (`same_cast`). Assumes nothing.
 module _ (now start : Float) (u n : ℕ) (e : u ≡ to_unsigned 32 (div binary64 (sub binary64 now start) blink)) (f : n ≡ (u + 1) % 2 ^ 32) where
   all : min n 6 ≡ due_of now start
   unfolding due_of

@@ -12,7 +12,6 @@ use Rattle.float.proofs.Bits.{no_nan}
 use Rattle.float.proofs.Held.{held_negative, held_low, held_mid, held_high}
 use Rattle.float.proofs.position.Goals as goal
 
--- `place::position` meets its contract. The product x is a value of the format, so it is what its bits b are read as, and each return is a case of `proofs/Held.antt`. Assumes nothing.
 held_nan : (x : Float) → ne x x ≡ true → held x ≡ 0
 unfolding held
 held_nan x h = ap held (differs_from_itself x (subst T (sym h) tt))

@@ -7,7 +7,6 @@ use Rattle.float.proofs.Bits.{no_nan, exponent, fraction}
 use Rattle.float.proofs.Cut.{cut_negative, cut_low, cut_mid, cut_high, fits_32}
 use Rattle.float.proofs.to_u32.Goals as goal
 
--- `place::to_u32` meets its contract. Each return has a lemma whose premises are the tests that lead there, as the code has them; `search` finds them in what is known there. Assumes nothing.
 nan_case : (x : Float) → ne x x ≡ true → 0 ≡ to_unsigned 32 x
 unfolding to_unsigned
 nan_case x h = sym (ap (to_unsigned 32) (differs_from_itself x (subst T (sym h) tt)))

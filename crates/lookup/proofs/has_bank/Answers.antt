@@ -13,7 +13,6 @@ use Rattle.profile.specs.RangeMore.{count_mono}
 use Rattle.lookup.specs.GatherLaws.{Walked, walked_none, walked_on}
 use Rattle.lookup.proofs.has_bank.Goals as goal
 
--- `lookup::has_bank` meets its contract. Assumes nothing.
 -- m banks are among the first k records, and the one that is asked for is one of them
 there : (s : List ℕ) (bank m k : ℕ) → k ≤ records s → Walked (is_kind s 1) m k → bank < m → true ≡ ltb bank (bank_count s)
 unfolding kind_count

@@ -3,7 +3,6 @@ use borrow.Author.Rules.{rules}
 use Rattle.base.specs.Range.{every}
 use Rattle.profile.proofs.size_ok.Goals as goal
 
--- `profile::size_ok` meets its contract. Assumes nothing.
 pub returns : goal.returns
 unfolding every
 returns c = search rules

@@ -10,7 +10,6 @@ use mir.ValLaws.{to_z_pos, to_z-of_z}
 use borrow.Author.Tests.{lt-ltb, le-ltb}
 use Rattle.protocol.proofs.turned.Goals as goal
 
--- `turned`: the machine writes a signed number as its bits and reads it back; both casts and the negation lose nothing below 256.
 negated : (n : ℕ) → n < 256 → (pos 0 -ℤ to_z w32 n) ≡ neg_ℤ (pos n)
 negated n h = ap (λ (z : ℤ). pos 0 -ℤ z) (to_z_pos w32 n (omega arith)) ∙ +ℤ_idl (neg_ℤ (pos n))
 

@@ -7,7 +7,6 @@ use Rattle.drivers.specs.Shown.{shown}
 use Rattle.transport.proofs.Laws.{placed, meet-known, meet-new}
 use Rattle.transport.proofs.meet.Goals as goal
 
--- `transport::meet` meets its contract. Assumes nothing.
 pub returns-then-known : goal.returns-then-known
 returns-then-known c = let b = c in
     let a = b.args in

@@ -8,7 +8,6 @@ use borrow.Author.Tests.{not-true, not-false}
 use Rattle.profile.specs.Profile.{byte_at, double_at, control, ends_finite}
 use Rattle.profile.proofs.ends.ends_finite.Goals as goal
 
--- `profile::ends::ends_finite` meets its contract. Assumes nothing.
 -- a record that has no range
 other : (s : List ℕ) (k x : ℕ) (a : Bool) → x ≡ byte_at s k 0 → a ≡ control x → not a ≡ true → true ≡ ends_finite s k
 unfolding ends_finite

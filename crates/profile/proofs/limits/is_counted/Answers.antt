@@ -3,7 +3,6 @@ use borrow.Author.Rules.{rules}
 use Rattle.profile.specs.Limits.{counted}
 use Rattle.profile.proofs.limits.is_counted.Goals as goal
 
--- `profile::limits::is_counted` meets its contract. Assumes nothing.
 pub returns : goal.returns
 unfolding counted
 returns c = search rules

@@ -1,9 +1,9 @@
 -- Each event on a desk that is the account's: what it leaves is the account's again, and what it asked is what the account says.
+use Rattle.std.proofs.Common.{None, Option, Some}
 use Prim.Native.Nat.{ℕ, ◌+◌, ◌*◌, ◌≤◌, ◌<◌}
 use mathlib.Core.Path.{◌≡◌, refl, sym, ap, ◌∙◌}
 use mathlib.Core.Bool.{Bool, true, false, ◌&&◌, ◌||◌, not}
 use mathlib.Core.List.{List, [], ◌∷◌, ◌++◌, map, append-nil, append_assoc}
-use mathlib.Core.Option.{Option, none, some}
 use lib.Dec.{eqb}
 use lib.ListN.{length, length-set}
 use lib.Seq.{get_or-set_same}
@@ -20,13 +20,9 @@ use Rattle.protocol.specs.declared.Event.TheVariants as event
 use Rattle.lookup.specs.Lookup.{same_dest}
 use Rattle.lookup.specs.View.{View}
 use Rattle.lookup.specs.declared.Destination.{Destination}
-use Rattle.lookup.specs.declared.Found.{Found}
-use Rattle.lookup.specs.declared.Found.TheVariants as found
 use Rattle.drivers.specs.Talk.{Talk, Reply, start, Got, next, plain_call, write_call, use_done, read_of, write_of}
 use Rattle.drivers.specs.Paired.{Asked, paired}
 use Rattle.drivers.specs.declared.Call.{Call}
-use Rattle.drivers.specs.declared.Level.{Level}
-use Rattle.drivers.specs.declared.Level.TheVariants.{At, Unknown}
 use Rattle.session.specs.Session.{Turn, Hushed, targets_of, is_marked, last_move, place_move, add_to, turn, strip_at, same_strip, same_at, same_strips}
 use Rattle.session.specs.declared.Move.{Move}
 use Rattle.session.specs.declared.Strip.{Strip}
@@ -50,7 +46,7 @@ desk_of a = desk a.marks a.last (map in_session a.line) a.sums
 
 -- ── devices ──
 
-record Reads (o : List Bool) (d : Destination) (c : Level) (l : List Asked) : Type 0 where
+record Reads (o : List Bool) (d : Destination) (c : Option Float) (l : List Asked) : Type 0 where
   reply : Reply
   uses : Uses o (reading_of d) reply l
   value : c ≡ read_as d reply
@@ -91,14 +87,14 @@ moved_booked false key m a = rw (place-lined m a.line)
 
 module _ (key : ℕ) (m : Waits) (a : Account) (answers : List ℕ) where
   -- what a fader's move leaves
-  Moved : Found → Got Desk → Type 0
+  Moved : Option Destination → Got Desk → Type 0
   Moved f r =
       Goes r.talk → Grown (λ l. (r.value ≡ desk_of (book_move f key m answers a)) × Only not_write l) (start answers a.opened) r.talk
 
-  fader_to_lem : (f : Found) → Moved f (fader_to f key m.channel m.level (desk_of a) (start answers a.opened))
+  fader_to_lem : (f : Option Destination) → Moved f (fader_to f key m.channel m.level (desk_of a) (start answers a.opened))
   unfolding Moved next reading
-  fader_to_lem found.Nothing g = same _ _ g (refl, no_call)
-  fader_to_lem (found.To d) g = at (d.takeover && not (is_marked key a.marks)) g
+  fader_to_lem None g = same _ _ g (refl, no_call)
+  fader_to_lem (Some d) g = at (d.takeover && not (is_marked key a.marks)) g
     where
       at : (b : Bool) → Goes (fader_if b d key m.channel m.level (desk_of a) (start answers a.opened)).talk →
           Grown (λ l. ((fader_if b d key m.channel m.level (desk_of a) (start answers a.opened)).value ≡
@@ -123,13 +119,13 @@ nudges_ok (e ∷ es) t g = one (is_zero e.sum) refl (nudges_ok es) g
     u : Talk
     u = (read e.dest t).talk
 
-    from : (c : Level) → (read e.dest t).value ≡ c → is_zero e.sum ≡ false → IH →
+    from : (c : Option Float) → (read e.dest t).value ≡ c → is_zero e.sum ≡ false → IH →
         Goes (nudges es (nudge_from c e.dest e.sum u)) → Grown (Nudges t.opened (e ∷ es)) t (nudges es (nudge_from c e.dest e.sum u))
-    from Unknown q z ih g =
+    from None q z ih g =
         let h = ih u g in
         let r = read_ok e.dest t h.was in
         join r h (λ m n. not-read z r.fact.uses (sym r.fact.value ∙ q) (rw r.opened at n))
-    from (At c) q z ih g =
+    from (Some c) q z ih g =
         let w = (write e.dest (nudge c e.sum) u).talk in
         let h = ih w g in
         let k = write_ok e.dest (nudge c e.sum) u h.was in
@@ -158,12 +154,12 @@ unfolding writes tried_of
 writes_ok r [] t g = same _ t g tried-all
 writes_ok r (m ∷ ms) t g = go (destination r (m.channel + 1)) (writes_ok r ms) g
   where
-    go : (f : Found) →
+    go : (f : Option Destination) →
         ((t : Talk) → Goes (writes r (map in_session ms) t) → Grown (Tries t.opened (tried_of r ms)) t (writes r (map in_session ms) t)) →
         Goes (writes r (map in_session ms) (write_move r.positions f (in_session m) t)) →
         Grown (Tries t.opened (try_at f m (tried_of r ms))) t (writes r (map in_session ms) (write_move r.positions f (in_session m) t))
-    go found.Nothing ih e = ih t e
-    go (found.To d) ih e =
+    go None ih e = ih t e
+    go (Some d) ih e =
         let b = (write d m.level t).value && r.positions in
         let u = (write d m.level t).talk in
         let h = ih (align_if b m.channel m.level u) e in
@@ -194,8 +190,8 @@ strip_refl s =
     rw (eq-eqb s.driver s.driver refl, eq-eqb s.target s.target refl, eq-eqb s.label s.label refl, eq-eqb s.group s.group refl, eq-eqb s.mute s.mute refl)
 
 at-refl : (o : Option Strip) → same_at o o ≡ true
-at-refl none = refl
-at-refl (some s) = strip_refl s
+at-refl None = refl
+at-refl (Some s) = strip_refl s
 
 strips_refl : (l : List Strip) → same_strips l l ≡ true
 unfolding same_strips all
@@ -203,12 +199,12 @@ strips_refl l =
     rw (at-refl (strip_at 1 l), at-refl (strip_at 2 l), at-refl (strip_at 3 l), at-refl (strip_at 4 l), at-refl (strip_at 5 l), at-refl (strip_at 6 l), at-refl (strip_at 7 l), at-refl (strip_at 8 l))
 
 live_refl : (o : Option (List Strip)) → same_live o o ≡ true
-live_refl none = refl
-live_refl (some l) = strips_refl l
+live_refl None = refl
+live_refl (Some l) = strips_refl l
 
-live_some : (o : Option (List Strip)) (l : List Strip) → same_live o (some l) ≡ same_as o l
-live_some none l = refl
-live_some (some k) l = refl
+live_some : (o : Option (List Strip)) (l : List Strip) → same_live o (Some l) ≡ same_as o l
+live_some None l = refl
+live_some (Some k) l = refl
 
 -- the flag says whether the bank's list is another
 module _ (w : Site) (now : Float) (r : Rig) (p : Lamps) (s : List ℕ) (in_list : w.bank < length w.lives) where
@@ -221,7 +217,7 @@ module _ (w : Site) (now : Float) (r : Rig) (p : Lamps) (s : List ℕ) (in_list 
 
   told_change : (b : Bool) (l : List Strip) (t : Talk) → same_as (live_at w.bank w) l ≡ b → Told true (change_if b l r p s t).value
   told_change true l t e = told_same true r.here.strips
-  told_change false l t e = rw (get_or-set_same w.lives w.bank (some l) none in_list, live_some (live_at w.bank w) l, e)
+  told_change false l t e = rw (get_or-set_same w.lives w.bank (Some l) None in_list, live_some (live_at w.bank w) l, e)
 
   told_ask : (b : Bool) (t : Talk) → Told true (ask_if b (live_at w.bank w) r p s t).value
   unfolding next
@@ -269,10 +265,10 @@ unfolding turn change summed
 turn-summed d n [] = refl
 turn-summed d n (x ∷ xs) = ap (λ (r : List Turn). pick (same_dest x.dest d) (add_to n x ∷ xs) (x ∷ r)) (turn-summed d n xs)
 
-turned_booked : (f : Found) (n : ℤ) (a : Account) →
+turned_booked : (f : Option Destination) (n : ℤ) (a : Account) →
     desk a.marks a.last (map in_session a.line) (turn_to f n a.sums) ≡ desk_of (book_turn f n a)
-turned_booked (found.To d) n a = rw (turn-summed d n a.sums)
-turned_booked found.Nothing n a = refl
+turned_booked (Some d) n a = rw (turn-summed d n a.sums)
+turned_booked None n a = refl
 
 unmarked_booked : (b c : Bool) (a : Account) → b ≡ c → unmarked b (desk_of a) ≡ desk_of (book_press c a)
 unmarked_booked b true a e = rw e
@@ -307,7 +303,7 @@ lives_after_lem false now x w h = h
 lives_after_lem true now x w h = record { bank = h.bank; lives = go x.changed }
   where
     go : (b : Bool) → length (lives_after b w.bank x.strips w.lives) ≡ 16
-    go true = length-set w.lives w.bank (some x.strips) ∙ h.lives
+    go true = length-set w.lives w.bank (Some x.strips) ∙ h.lives
     go false = h.lives
 
 module _ (v : View) (i : ℕ) (w : Site) (l : Lamps) (s : List Hushed) (a : Account) (answers : List ℕ) (now : Float) (few : v.banks ≤ 16) (there : Placed w) where

@@ -1,9 +1,9 @@
 -- The account by itself: no move is lost or booked twice, and no turn. Nothing of the bridge is in here.
+use Rattle.std.proofs.Common.{None, Option, Some}
 use Prim.Native.Nat.{ℕ, suc, ◌+◌, ◌*◌, ◌≤◌, ◌<◌}
 use mathlib.Core.Path.{◌≡◌, refl, sym, ap, ◌∙◌}
 use mathlib.Core.Bool.{Bool, true, false, not, ◌&&◌, beq}
 use mathlib.Core.List.{List, [], ◌∷◌, ◌++◌, map, append-nil, append_assoc}
-use mathlib.Core.Option.{Option, none, some}
 use native.Mathlib.Omega.{arith}
 use lib.Dec.{eqb}
 use lib.IntN.{ℤ, pos, ◌+ℤ◌, +ℤ_idl, +ℤ_idr, +ℤ_assoc, +ℤ_comm}
@@ -16,8 +16,6 @@ use Rattle.protocol.specs.declared.Event.TheVariants as event
 use Rattle.lookup.specs.Lookup.{same_dest}
 use Rattle.lookup.specs.View.{View}
 use Rattle.lookup.specs.declared.Destination.{Destination}
-use Rattle.lookup.specs.declared.Found.{Found}
-use Rattle.lookup.specs.declared.Found.TheVariants as found
 use Rattle.drivers.specs.Paired.{Asked}
 use Rattle.session.specs.Session.{Turn, is_marked, last_move, add_to}
 use Rattle.event.specs.declared.Input.{Input}
@@ -66,10 +64,10 @@ unfolding dropped_of tried_of count tids
 parted r i [] = refl
 parted r i (m ∷ ms) = go (destination r (m.channel + 1)) (parted r i ms)
   where
-    go : (f : Found) → count i (dropped_of r ms) + count i (tids (tried_of r ms)) ≡ count i (ids ms) →
+    go : (f : Option Destination) → count i (dropped_of r ms) + count i (tids (tried_of r ms)) ≡ count i (ids ms) →
         count i (drop_at f m (dropped_of r ms)) + count i (tids (try_at f m (tried_of r ms))) ≡ count i (m.id ∷ ids ms)
-    go found.Nothing e = omega (arith, e, count-cons i m.id (dropped_of r ms), count-cons i m.id (ids ms))
-    go (found.To d) e = omega (arith, e, count-cons i m.id (tids (tried_of r ms)), count-cons i m.id (ids ms))
+    go None e = omega (arith, e, count-cons i m.id (dropped_of r ms), count-cons i m.id (ids ms))
+    go (Some d) e = omega (arith, e, count-cons i m.id (tids (tried_of r ms)), count-cons i m.id (ids ms))
 
 map-append : (l m : List Tried) → tids (l ++ m) ≡ tids l ++ tids m
 unfolding tids
@@ -117,15 +115,15 @@ module _ (v : View) (n : ℕ) (w z : Site) (answers : List ℕ) (asked : List As
       m : Waits
       m = record { id = n; channel = ch; level = x }
 
-      go : (f : Found) → fates (book_move f (w.bank * 16 + ch) m answers a) i ≡ fates a i + count i (if_found f n)
-      go found.Nothing = omega arith
-      go (found.To d) =
+      go : (f : Option Destination) → fates (book_move f (w.bank * 16 + ch) m answers a) i ≡ fates a i + count i (if_found f n)
+      go None = omega arith
+      go (Some d) =
           booked_move ((d.takeover && not (is_marked (w.bank * 16 + ch) a.marks)) && is_held (reading d answers a.opened) (last_move (w.bank * 16 + ch) a.last) x) (w.bank * 16 + ch) m a i
   fates_event (input.Midi (event.Encoder ch k)) = go (encoder_dest (rig_in v w) (ch + 1))
     where
-      go : (f : Found) → fates (book_turn f k a) i ≡ fates a i + 0
-      go found.Nothing = omega arith
-      go (found.To d) = omega arith
+      go : (f : Option Destination) → fates (book_turn f k a) i ≡ fates a i + 0
+      go None = omega arith
+      go (Some d) = omega arith
   fates_event (input.Midi (event.Button b)) = omega (arith, fates-press (press_moves v w b.pressed b.note asked) a i)
   fates_event (input.Midi event.Other) = omega arith
   fates_event input.Tick =
@@ -140,12 +138,12 @@ module _ (v : View) (n : ℕ) (w z : Site) (answers : List ℕ) (asked : List As
 module _ (v : View) (n i : ℕ) where
   other_none : (i ≡ n → ⊥) → (x : Option Past) → count i (move_at v n x) ≡ 0
   unfolding count
-  other_none h none = refl
-  other_none h (some x) = go x.what
+  other_none h None = refl
+  other_none h (Some x) = go x.what
     where
-      at : (f : Found) → count i (if_found f n) ≡ 0
-      at found.Nothing = refl
-      at (found.To d) = rw (ne_eqb i n h)
+      at : (f : Option Destination) → count i (if_found f n) ≡ 0
+      at None = refl
+      at (Some d) = rw (ne_eqb i n h)
 
       go : (e : Input) → count i (move_in v n e x.before) ≡ 0
       go (input.Midi (event.Fader ch y)) = at (destination (rig_in v x.before) (ch + 1))
@@ -159,16 +157,16 @@ module _ (v : View) (n i : ℕ) where
 
   once_of : (x : Option Past) → count i (move_at v n x) ≤ 1
   unfolding count
-  once_of none = omega arith
-  once_of (some x) = go x.what
+  once_of None = omega arith
+  once_of (Some x) = go x.what
     where
       bit : (b : Bool) → bump b 0 ≤ 1
       bit true = omega arith
       bit false = omega arith
 
-      at : (f : Found) → count i (if_found f n) ≤ 1
-      at found.Nothing = omega arith
-      at (found.To d) = bit (eqb i n)
+      at : (f : Option Destination) → count i (if_found f n) ≤ 1
+      at None = omega arith
+      at (Some d) = bit (eqb i n)
 
       go : (e : Input) → count i (move_in v n e x.before) ≤ 1
       go (input.Midi (event.Fader ch y)) = at (destination (rig_in v x.before) (ch + 1))
@@ -276,15 +274,15 @@ module _ (v : View) (n : ℕ) (w z : Site) (answers : List ℕ) (asked : List As
       m : Waits
       m = record { id = n; channel = ch; level = x }
 
-      go : (f : Found) → total (book_move f (w.bank * 16 + ch) m answers a) d ≡ total a d
-      go found.Nothing = refl
-      go (found.To y) =
+      go : (f : Option Destination) → total (book_move f (w.bank * 16 + ch) m answers a) d ≡ total a d
+      go None = refl
+      go (Some y) =
           total-move ((y.takeover && not (is_marked (w.bank * 16 + ch) a.marks)) && is_held (reading y answers a.opened) (last_move (w.bank * 16 + ch) a.last) x) (w.bank * 16 + ch) m a d
   total_event (input.Midi (event.Encoder ch k)) = go (encoder_dest (rig_in v w) (ch + 1))
     where
-      go : (f : Found) → total (book_turn f k a) d ≡ total a d +ℤ sum_for d (turn_to f k)
-      go found.Nothing = sym (+ℤ_idr _)
-      go (found.To x) = rw (sum_summed d x k a.sums, +ℤ_idr, ← +ℤ_assoc)
+      go : (f : Option Destination) → total (book_turn f k a) d ≡ total a d +ℤ sum_for d (turn_to f k)
+      go None = sym (+ℤ_idr _)
+      go (Some x) = rw (sum_summed d x k a.sums, +ℤ_idr, ← +ℤ_assoc)
   total_event (input.Midi (event.Button b)) = total-press (press_moves v w b.pressed b.note asked) a d ∙ sym (+ℤ_idr _)
   total_event (input.Midi event.Other) = sym (+ℤ_idr _)
   total_event input.Tick =

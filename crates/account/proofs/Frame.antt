@@ -1,29 +1,23 @@
 -- Handlers of which the account knows nothing but which kinds of calls they make. `Makes K f`: if the line goes on after f, its calls grew by calls of
 -- kinds in K, and the open drivers by what they opened. A few rules; each handler is a line for each clause.
+use Rattle.std.proofs.Common.{None, Option, Some}
 use Prim.Native.Nat.{ℕ, zero, suc, ◌+◌, ◌-◌, ◌*◌}
 use mathlib.Core.Path.{◌≡◌, refl}
 use mathlib.Core.Bool.{Bool, true, false, ◌||◌}
 use mathlib.Core.List.{List, [], ◌∷◌, ◌++◌}
-use mathlib.Core.Option.{Option, none, some}
 use lib.Dec.{eqb, leb}
 use lib.Ieee.{Float}
 use Rattle.base.specs.Keyed.{find}
 use Rattle.float.specs.Leaf.{due_of, flash_over}
 use Rattle.protocol.specs.Protocol.{sent_to, transport_note}
 use Rattle.protocol.specs.declared.Out.{Out}
-use Rattle.protocol.specs.declared.Found as notes
-use Rattle.protocol.specs.declared.Found.TheVariants as note
 use Rattle.lookup.specs.Lookup.{merged}
 use Rattle.lookup.specs.declared.Destination.{Destination}
 use Rattle.lookup.specs.declared.Command.{Command}
 use Rattle.lookup.specs.declared.Entry.{Entry}
-use Rattle.lookup.specs.declared.Found.{Found}
-use Rattle.lookup.specs.declared.Found.TheVariants as found
 use Rattle.drivers.specs.Talk.{Talk, Reply, Act, got, next, ◌>>=◌, plain_call, open_for, use_call, use_done, read_of, playing_of, live_of, send}
 use Rattle.drivers.specs.Paired.{Asked}
 use Rattle.drivers.specs.declared.Call.{Call}
-use Rattle.drivers.specs.declared.Level.{Level}
-use Rattle.drivers.specs.declared.Level.TheVariants.{At, Unknown}
 use Rattle.session.specs.Session.{last_move}
 use Rattle.session.specs.declared.Lamps.{Lamps}
 use Rattle.session.specs.declared.Moves.{Moves}
@@ -141,22 +135,22 @@ module _ {K : ℕ → Bool} where
       unfolding read_mute
       makes_read_mute d = bind (makes_read_of d.driver d.mute) (λ x. still)
 
-      makes_level : (ch : ℕ) (x : Level) → Makes K (send_level ch x)
-      makes_level ch (At x) = says (sent_to ch x)
-      makes_level ch Unknown = stay
+      makes_level : (ch : ℕ) (x : Option Float) → Makes K (send_level ch x)
+      makes_level ch (Some x) = says (sent_to ch x)
+      makes_level ch None = stay
 
-      makes_position : (b : Bool) (ch : ℕ) (d : Found) → Makes K (position_for b ch d)
-      makes_position true ch (found.To d) = onto {m = read d} (makes_read d) (makes_level ch)
-      makes_position true ch found.Nothing = stay
+      makes_position : (b : Bool) (ch : ℕ) (d : Option Destination) → Makes K (position_for b ch d)
+      makes_position true ch (Some d) = onto {m = read d} (makes_read d) (makes_level ch)
+      makes_position true ch None = stay
       makes_position false ch d = stay
 
       makes_muted_if : (b : Bool) (d : Destination) (s : List ℕ) → Asks K (muted_if b d s)
       makes_muted_if true d s = bind (makes_read_mute d) (λ m. still)
       makes_muted_if false d s = still
 
-      pub makes_muted_to : (d : Found) (s : List ℕ) → Asks K (muted_to d s)
-      makes_muted_to (found.To d) s = makes_muted_if (has_mute d) d s
-      makes_muted_to found.Nothing s = still
+      pub makes_muted_to : (d : Option Destination) (s : List ℕ) → Asks K (muted_to d s)
+      makes_muted_to (Some d) s = makes_muted_if (has_mute d) d s
+      makes_muted_to None s = still
 
       makes_four : (x : Rig) (l : Lamps) (ch : ℕ) (b : Bool) → Makes K (four_lamps x l ch b)
       makes_four x l ch b = after (says _) (after (says _) (after (says _) (says _)))
@@ -255,12 +249,12 @@ module _ {K : ℕ → Bool} where
       makes_playing driver name = bind (makes_use (plain_call 5 driver name 0) refl p) (λ x. still)
 
       makes_meet : (k : Option Player) (c : Command) (known : List Player) (n : ℕ) → Asks K (meet_if k c known n)
-      makes_meet (some x) c known n = giving (says _)
-      makes_meet none c known n = bind (makes_playing c.driver c.target) (λ b. giving (says _))
+      makes_meet (Some x) c known n = giving (says _)
+      makes_meet None c known n = bind (makes_playing c.driver c.target) (λ b. giving (says _))
 
-      makes_lamp_for : (n : notes.Found) (c : Command) (known : List Player) → Asks K (lamp_for n c known)
-      makes_lamp_for (note.At n) c known = makes_meet (find (is_player c) known) c known n
-      makes_lamp_for note.Nothing c known = still
+      makes_lamp_for : (n : Option ℕ) (c : Command) (known : List Player) → Asks K (lamp_for n c known)
+      makes_lamp_for (Some n) c known = makes_meet (find (is_player c) known) c known n
+      makes_lamp_for None c known = still
 
       makes_bound : (l : List Entry) (known : List Player) → Makes K (push_bound l known)
       unfolding push_bound

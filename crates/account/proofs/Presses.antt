@@ -1,29 +1,21 @@
 -- A press: it selects a bank exactly where the account says so, and loads a scene exactly where a load of its calls was answered done.
+use Rattle.std.proofs.Common.{None, Option, Some}
 use Prim.Native.Nat.{ℕ, zero, suc, ◌+◌, ◌-◌, ◌≤◌, ◌<◌}
 use mathlib.Core.Path.{◌≡◌, refl, sym, ap, subst, ◌∙◌}
 use mathlib.Core.Bool.{Bool, true, false, ◌&&◌, ◌||◌, not, beq, or-false, false≢true}
 use mathlib.Core.List.{List, [], ◌∷◌, ◌++◌}
-use mathlib.Core.Option.{Option, none, some}
 use native.Mathlib.Omega.{arith}
 use lib.Dec.{eqb, leb}
 use lib.ListN.{length, get_or}
 use lib.Ieee.{Float}
 use borrow.Author.Tests.{eqb-true, leb-false}
 use Rattle.base.specs.Choice.{pick}
-use Rattle.base.specs.declared.Place.{Place}
-use Rattle.base.specs.declared.Place.TheVariants as place
 use Rattle.protocol.specs.Protocol.{kind_of, channel_of}
 use Rattle.lookup.specs.Lookup.{transport_of, before}
 use Rattle.lookup.specs.declared.Destination.{Destination}
-use Rattle.lookup.specs.declared.Found.{Found}
-use Rattle.lookup.specs.declared.Found.TheVariants as found
-use Rattle.lookup.specs.declared.Bound.{Bound}
-use Rattle.lookup.specs.declared.Bound.TheVariants as bound
 use Rattle.drivers.specs.Answers.{is_done}
 use Rattle.drivers.specs.Talk.{Talk, Reply, Act, next, ◌>>=◌, plain_call, write_call, use_done, write_of, toggle_of, command_of, scenes_of, current_of, load_of}
 use Rattle.drivers.specs.Paired.{Asked, paired}
-use Rattle.drivers.specs.declared.Index.{Index}
-use Rattle.drivers.specs.declared.Index.TheVariants as index
 use Rattle.session.specs.Session.{Hushed, targets_of, is_hushed, scene_at, solo_to, none_noted, loaded_by}
 use Rattle.session.specs.declared.Lamps.{Lamps}
 use Rattle.session.specs.declared.Moves.{Moves}
@@ -36,6 +28,7 @@ use Rattle.definition.specs.Buttons.{Press, Pressed, pressed, of_bank, offered_i
 use Rattle.account.specs.Account.{answer_in, loads, is_load, steps, Uses, used, opened-used, not-used, Only, no_call, one-call}
 use Rattle.account.proofs.Grown.{Grown, Goes, weaken, join, use_ok}
 use Rattle.account.proofs.Frame.{Makes, Asks, stay, still, giving, line_of, behind, onto, bind, makes_open, makes_use, makes_done, makes_read, makes_read_mute, makes_muted_to, makes_push, makes_number, makes_flash_bank}
+use Rattle.lookup.specs.declared.Command.{Command}
 
 abbrev pub not_load : ℕ → Bool
 not_load kind = not (eqb kind 8)
@@ -87,13 +80,13 @@ makes_mute_if false d s = go (is_hushed (kept_by d) (targets_of s))
     go true = makes_back d s
     go false = makes_zeroed d s
 
-makes_mute_to : (f : Found) (r : Rig) (l : Lamps) (s : List Hushed) → Asks not_load (mute_to f r l s)
-makes_mute_to (found.To d) r l s = bind (makes_mute_if (has_mute d) d s) (λ k. giving (makes_push refl refl r l (targets_of k)))
-makes_mute_to found.Nothing r l s = still
+makes_mute_to : (f : Option Destination) (r : Rig) (l : Lamps) (s : List Hushed) → Asks not_load (mute_to f r l s)
+makes_mute_to (Some d) r l s = bind (makes_mute_if (has_mute d) d s) (λ k. giving (makes_push refl refl r l (targets_of k)))
+makes_mute_to None r l s = still
 
 makes_toggle_if : (o : Option Bool) (b : Bool) (d : Destination) → Makes not_load (toggle_if o b d)
-makes_toggle_if none b d = stay
-makes_toggle_if (some a) b d = go (beq a b)
+makes_toggle_if None b d = stay
+makes_toggle_if (Some a) b d = go (beq a b)
   where
     go : (c : Bool) → Makes not_load (λ t. pick c t (toggle_of d.driver d.mute t).talk)
     go true = stay
@@ -111,9 +104,9 @@ makes_off_if : (b : Bool) (d : Destination) (was : Bool) (s : List Hushed) → A
 makes_off_if true d was s = giving (makes_set_mute d was)
 makes_off_if false d was s = makes_back_if (is_hushed (kept_by d) (targets_of s)) d s
 
-makes_off_to : (f : Found) (was : Bool) (s : List Hushed) → Asks not_load (off_to f was s)
-makes_off_to (found.To d) was s = makes_off_if (has_mute d) d was s
-makes_off_to found.Nothing was s = still
+makes_off_to : (f : Option Destination) (was : Bool) (s : List Hushed) → Asks not_load (off_to f was s)
+makes_off_to (Some d) was s = makes_off_if (has_mute d) d was s
+makes_off_to None was s = still
 
 makes_solo_off : (r : Rig) (group : ℕ) (l : Lamps) (n : ℕ) (s : List Hushed) → Asks not_load (solo_off (peer r group) l n s)
 unfolding solo_off
@@ -141,9 +134,9 @@ makes_on_if false d silence s = go silence
     go true = makes_silence_if (is_hushed (kept_by d) (targets_of s)) d s
     go false = makes_back_if (is_hushed (kept_by d) (targets_of s)) d s
 
-makes_on_to : (f : Found) (silence : Bool) (s : List Hushed) → Asks not_load (on_to f silence s)
-makes_on_to (found.To d) silence s = makes_on_if (has_mute d) d silence s
-makes_on_to found.Nothing silence s = still
+makes_on_to : (f : Option Destination) (silence : Bool) (s : List Hushed) → Asks not_load (on_to f silence s)
+makes_on_to (Some d) silence s = makes_on_if (has_mute d) d silence s
+makes_on_to None silence s = still
 
 makes_solo_on : (r : Rig) (group fader n : ℕ) (s : List Hushed) → Asks not_load (solo_on (peer r group) fader n s)
 unfolding solo_on
@@ -157,9 +150,9 @@ makes_solo_if false r group fader l s =
     bind (makes_note_if (eqb l.soloed 0) r group (targets_of s) l)
     (λ n. bind (makes_solo_on r group fader 16 s) (λ k. giving (makes_push refl refl r (solo_to fader n) (targets_of k))))
 
-makes_solo_with : (f : Found) (r : Rig) (fader : ℕ) (l : Lamps) (s : List Hushed) → Asks not_load (solo_with f r fader l s)
-makes_solo_with (found.To d) r fader l s = makes_solo_if (eqb l.soloed fader) r d.group fader l s
-makes_solo_with found.Nothing r fader l s = still
+makes_solo_with : (f : Option Destination) (r : Rig) (fader : ℕ) (l : Lamps) (s : List Hushed) → Asks not_load (solo_with f r fader l s)
+makes_solo_with (Some d) r fader l s = makes_solo_if (eqb l.soloed fader) r d.group fader l s
+makes_solo_with None r fader l s = still
 
 makes_mute : (r : Rig) (n : ℕ) (l : Lamps) (s : List Hushed) → Asks not_load (mute r n l s)
 unfolding mute
@@ -182,17 +175,17 @@ makes_default r kind = go (eqb (bank_driver r.here) 65535)
     go true = still
     go false = bind (makes_open refl (bank_driver r.here) 0) at
 
-makes_bound : (b : Bound) → Makes not_load (run_bound b)
-makes_bound (bound.Run c) = line_of (makes_command c.driver c.target c.command)
-makes_bound bound.Nothing = stay
+makes_bound : (b : Option Command) → Makes not_load (run_bound b)
+makes_bound (Some c) = line_of (makes_command c.driver c.target c.command)
+makes_bound None = stay
 
 makes_run : (r : Rig) (kind : ℕ) → Makes not_load (run_command r kind)
 unfolding run_command
 makes_run r kind = go (before (transport_of kind r.globals.transports) (transport_of kind r.here.part.transports))
   where
-    go : (b : Bound) → Makes not_load (run_else b r kind)
-    go (bound.Run c) = makes_bound (bound.Run c)
-    go bound.Nothing = onto {m = default_button r kind} {g = run_bound} (makes_default r kind) makes_bound
+    go : (b : Option Command) → Makes not_load (run_else b r kind)
+    go (Some c) = makes_bound (Some c)
+    go None = onto {m = default_button r kind} {g = run_bound} (makes_default r kind) makes_bound
 
 makes_rec_loads : (r : Rig) → Asks not_load (rec_loads r)
 unfolding rec_loads
@@ -219,9 +212,9 @@ makes_on_device : (h : Here) (names : List ℕ) → Asks not_load (scene_on_devi
 unfolding scene_on_device
 makes_on_device h names = go (eqb (device h) 65535)
   where
-    on : (i : Index) → Asks not_load (on_list i (device h) names)
-    on (index.At i) = bind (makes_scenes (device h)) (λ l. still)
-    on index.Nothing = still
+    on : (i : Option ℕ) → Asks not_load (on_list i (device h) names)
+    on (Some i) = bind (makes_scenes (device h)) (λ l. still)
+    on None = still
 
     go : (b : Bool) → Asks not_load (on_device_if b (device h) names)
     go true = still
@@ -231,9 +224,9 @@ makes_start : (h : Here) (names : List ℕ) (l : Lamps) → Asks not_load (start
 unfolding start
 makes_start h names l = go (scene_at h.bank l)
   where
-    go : (p : Place) → Asks not_load (start_if p h names l)
-    go (place.At i) = still
-    go place.Nothing = bind (makes_on_device h names) (λ p. still)
+    go : (p : Option ℕ) → Asks not_load (start_if p h names l)
+    go (Some i) = still
+    go None = bind (makes_on_device h names) (λ p. still)
 
 -- ── loads ──
 

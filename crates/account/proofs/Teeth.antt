@@ -1,4 +1,5 @@
 -- Wrong bridges, each shown to break the claim by a short list of events, which the prover runs.
+use Rattle.std.proofs.Common.{Some}
 use Prim.Native.Nat.{ℕ, ◌≤◌}
 use mathlib.Core.Path.{◌≡◌, refl, sym, ap, ◌∙◌}
 use mathlib.Core.Bool.{Bool, true, false, not, false≢true}
@@ -25,7 +26,6 @@ use Rattle.session.specs.declared.Marks.{Marks}
 use Rattle.session.specs.declared.Move.{Move}
 use Rattle.event.specs.declared.Input.{Input}
 use Rattle.event.specs.declared.Input.TheVariants as input
-use Rattle.event.specs.declared.Read.TheVariants as event-read
 use Rattle.definition.specs.Rig.{own_fader, destination, encoder_dest, device, bank_driver}
 use Rattle.definition.specs.Levels.{read, write}
 use Rattle.definition.specs.Lamps.{push_position, is_muted, push_fader, push_faders, push_state}
@@ -42,7 +42,7 @@ use Rattle.account.specs.Account.{done_reply, answer_in, opens, loads, pasts, fi
 -- ── events ──
 
 abbrev at : Input → List ℕ → Offer
-at e answers = record { event = event-read.Known (timed e); answers = answers }
+at e answers = record { event = Some (timed e); answers = answers }
 
 -- 0.75
 abbrev most : Float
@@ -323,7 +323,7 @@ abbrev live_list_lem : ℕ → List ℕ
 live_list_lem target = 6 ∷ 0 ∷ 1 ∷ 0 ∷ 0 ∷ 0 ∷ 0 ∷ 0 ∷ 0 ∷ 0 ∷ 0 ∷ 0 ∷ 0 ∷ 0 ∷ 0 ∷ 0 ∷ 7 ∷ 1 ∷ target ∷ 0 ∷ 0 ∷ 0 ∷ 0 ∷ 0 ∷ 255 ∷ 255 ∷ 0 ∷ 0 ∷ 0 ∷ 0 ∷ 0 ∷ 0 ∷ []
 
 abbrev at_one : Input → List ℕ → Offer
-at_one e answers = record { event = event-read.Known (record { time = f1; what = e }); answers = answers }
+at_one e answers = record { event = Some (record { time = f1; what = e }); answers = answers }
 
 -- the list comes, a move on it is taken over, a second later the list is another, and the next move there is to be held
 refuted_11 : Claim keeps_on_live → ⊥

@@ -1,4 +1,5 @@
 -- Demand 3, by induction on the list of offers.
+use Rattle.std.proofs.Common.{None, Option, Some}
 use Prim.Native.Nat.{ℕ, suc, ◌+◌, ◌*◌, ◌≤◌}
 use mathlib.Core.Path.{◌≡◌, refl, sym, ap, subst, ◌∙◌}
 use mathlib.Core.Bool.{Bool, true, false, not, ◌&&◌}
@@ -11,8 +12,6 @@ use Rattle.profile.specs.Profile.{verdict}
 use Rattle.profile.specs.Accepted.{few_banks}
 use Rattle.lookup.specs.View.{View, view_of}
 use Rattle.lookup.specs.declared.Destination.{Destination}
-use Rattle.lookup.specs.declared.Found.{Found}
-use Rattle.lookup.specs.declared.Found.TheVariants as found
 use Rattle.drivers.specs.Talk.{Stop, going, waits, declined, overrun, start, Got}
 use Rattle.drivers.specs.Paired.{Asked, paired}
 use Rattle.base.specs.Keyed.{beside}
@@ -20,8 +19,6 @@ use Rattle.session.specs.Session.{Turn, is_marked, last_move, fresh_session}
 use Rattle.event.specs.declared.Input.{Input}
 use Rattle.event.specs.declared.Input.TheVariants as input
 use Rattle.event.specs.declared.Timed.{Timed}
-use Rattle.event.specs.declared.Read.{Read}
-use Rattle.event.specs.declared.Read.TheVariants as event-read
 use Rattle.definition.specs.Rig.{destination, encoder_dest}
 use Rattle.definition.specs.Faders.{is_held}
 use Rattle.definition.specs.Step.{Site, Kept, kept, seen, Left, act, refusal, Stepped, finish, step_if, step}
@@ -59,15 +56,15 @@ module _ (v : View) (i : ℕ) (w z : Site) (answers : List ℕ) (asked : List As
       at true = refl
       at false = refl
 
-      go : (f : Found) → (book_move f (w.bank * 16 + ch) m answers a).drains ≡ a.drains
-      go found.Nothing = refl
-      go (found.To d) =
+      go : (f : Option Destination) → (book_move f (w.bank * 16 + ch) m answers a).drains ≡ a.drains
+      go None = refl
+      go (Some d) =
           at ((d.takeover && not (is_marked (w.bank * 16 + ch) a.marks)) && is_held (reading d answers a.opened) (last_move (w.bank * 16 + ch) a.last) x)
   drains_event (input.Midi (event.Encoder ch n)) = go (encoder_dest (rig_in v w) (ch + 1)) ∙ sym (append-nil a.drains)
     where
-      go : (f : Found) → (book_turn f n a).drains ≡ a.drains
-      go found.Nothing = refl
-      go (found.To d) = refl
+      go : (f : Option Destination) → (book_turn f n a).drains ≡ a.drains
+      go None = refl
+      go (Some d) = refl
   drains_event (input.Midi (event.Button b)) = go (press_moves v w b.pressed b.note asked) ∙ sym (append-nil a.drains)
     where
       go : (c : Bool) → (book_press c a).drains ≡ a.drains
@@ -86,7 +83,7 @@ module _ (v : View) (i : ℕ) (w z : Site) (answers : List ℕ) (asked : List As
 -- ── one event ──
 
 -- what a step makes of the invariant
-abbrev After : View → ℕ → Read → List ℕ → Kept → Account → List ℕ → List Turn → List (List Asked) → List Asked → Stepped → Type 0
+abbrev After : View → ℕ → Option Timed → List ℕ → Kept → Account → List ℕ → List Turn → List (List Asked) → List Asked → Stepped → Type 0
 After v i e answers k a ms ts ks qs r =
     Inv (ms ++ move_at v i (past_of e k.site answers r)) (ts ++ turn_at v (past_of e k.site answers r)) (ks ++ tick_at (past_of e k.site answers r))
     (qs ++ moved_at (past_of e k.site answers r)) r.kept (book v i (past_of e k.site answers r) a)
@@ -97,7 +94,7 @@ module _ (v : View) (i : ℕ) (e : Timed) (answers : List ℕ) (k : Kept) (a : A
   none_so = rw (append-nil, append-nil, append-nil, append-nil) h
 
   one : (r : Got Left) (s : Stop) → (s ≡ going → Booked v i k.site a e.what answers r.value r.talk.calls r.talk.opened) →
-      After v i (event-read.Known e) answers k a ms ts ks qs (finish s v k r)
+      After v i (Some e) answers k a ms ts ks qs (finish s v k r)
   one r going f =
       let b = f refl in
       let x = r.value in
@@ -106,18 +103,18 @@ module _ (v : View) (i : ℕ) (e : Timed) (answers : List ℕ) (k : Kept) (a : A
         desk = b.desk;
         opened = b.opened;
         placed = b.placed;
-        fate = λ n. omega (arith, h.fate n, count-append n ms (move_at v i (past_of (event-read.Known e) k.site answers (finish going v k r))), fates_event v i k.site x.site answers l a n e.what);
+        fate = λ n. omega (arith, h.fate n, count-append n ms (move_at v i (past_of (Some e) k.site answers (finish going v k r))), fates_event v i k.site x.site answers l a n e.what);
         drains = subst (Each Drained (ks ++ tick_in e.what l)) (sym (drains_event v i k.site x.site answers l a e.what)) (each_append h.drains b.drains);
         quiet = only_append h.quiet b.quiet;
         turned = λ d.
-            sum_append d ts _ ∙ ap (λ (z : ℤ). z +ℤ sum_for d (turn_at v (past_of (event-read.Known e) k.site answers (finish going v k r)))) (h.turned d)
+            sum_append d ts _ ∙ ap (λ (z : ℤ). z +ℤ sum_for d (turn_at v (past_of (Some e) k.site answers (finish going v k r)))) (h.turned d)
             ∙ sym (total_event v i k.site x.site answers l a d e.what);
       }
   one r (waits c) f = none_so
   one r declined f = none_so
   one r overrun f = none_so
 
-  step_if_lem : (b : Bool) (why : ℕ) → v.banks ≤ 16 → After v i (event-read.Known e) answers k a ms ts ks qs (step_if b why e v k answers)
+  step_if_lem : (b : Bool) (why : ℕ) → v.banks ≤ 16 → After v i (Some e) answers k a ms ts ks qs (step_if b why e v k answers)
   step_if_lem true why few = one (act e.what v k e.time (start answers k.opened)) _ (acted few)
     where
       acted : v.banks ≤ 16 → Books v i k.site a e.what answers (act e.what v k e.time (start answers k.opened))
@@ -127,12 +124,12 @@ module _ (v : View) (i : ℕ) (e : Timed) (answers : List ℕ) (k : Kept) (a : A
           (act_ok v i k.site k.lamps k.silenced a answers e.time few h.placed e.what))
   step_if_lem false why few = none_so
 
-offered_so : (v : View) → v.banks ≤ 16 → (i : ℕ) (e : Read) (answers : List ℕ) (k : Kept) (a : Account) (ms : List ℕ) (ts : List Turn) (ks : List (List Asked)) (qs : List Asked) →
+offered_so : (v : View) → v.banks ≤ 16 → (i : ℕ) (e : Option Timed) (answers : List ℕ) (k : Kept) (a : Account) (ms : List ℕ) (ts : List Turn) (ks : List (List Asked)) (qs : List Asked) →
     Inv ms ts ks qs k a → After v i e answers k a ms ts ks qs (step_of step v k e answers)
 unfolding step
-offered_so v few i (event-read.Known e) answers k a ms ts ks qs h =
+offered_so v few i (Some e) answers k a ms ts ks qs h =
     step_if_lem v i e answers k a ms ts ks qs h (eqb (refusal e.what v k e.time) 0) (refusal e.what v k e.time) few
-offered_so v few i event-read.Unknown answers k a ms ts ks qs h = rw (append-nil, append-nil, append-nil, append-nil) h
+offered_so v few i None answers k a ms ts ks qs h = rw (append-nil, append-nil, append-nil, append-nil) h
 
 -- ── the whole list ──
 

@@ -1,8 +1,7 @@
 -- The account, and what demand 3 claims of it: "one claim on the whole list, not one for each event".
 -- The account is fed what is past: for each event whether it finished, what it was, the answers that it was offered, and, from the definition of an
 -- event, where the bridge stood before and after it and which call took which answer. A `Past` has no mark, last move, line or sum.
-use Rattle.std.specs.Prelude.{ℕ, suc, ◌+◌, ◌*◌, ◌≤◌, ◌<◌, ◌≡◌, Bool, true, false, ◌&&◌, ◌||◌, not, List, [], ◌∷◌, ◌++◌, map, eqb, leb, length, get_or, set, replicate, ℤ, pos, ◌+ℤ◌, Float}
-use Rattle.std.proofs.Math.Option.{Option, none, some}
+use Rattle.std.specs.Prelude.{ℕ, suc, ◌+◌, ◌*◌, ◌≤◌, ◌<◌, ◌≡◌, Bool, true, false, ◌&&◌, ◌||◌, not, List, [], ◌∷◌, ◌++◌, map, eqb, leb, length, get_or, set, replicate, ℤ, pos, ◌+ℤ◌, Float, None, Option, Some}
 use Rattle.base.specs.Choice.{pick}
 use Rattle.float.specs.Leaf.{f0, range_of, nudge}
 use Rattle.protocol.specs.Protocol.{kind_of, channel_of}
@@ -10,16 +9,12 @@ use Rattle.protocol.specs.declared.Event.TheVariants as event
 use Rattle.lookup.specs.Lookup.{same_dest}
 use Rattle.lookup.specs.View.{View}
 use Rattle.lookup.specs.declared.Destination.{Destination}
-use Rattle.lookup.specs.declared.Found.{Found}
-use Rattle.lookup.specs.declared.Found.TheVariants as found
 use Rattle.drivers.specs.Answers.{is_done}
 use Rattle.drivers.specs.Talk.{Reply, no_reply, start, plain_call, write_call, level_of}
 use Rattle.drivers.specs.Paired.{Asked, paired}
 use Rattle.drivers.specs.declared.Call.{Call}
 use Rattle.drivers.specs.declared.Answer.{Answer}
 use Rattle.drivers.specs.declared.Answer.TheVariants as answer
-use Rattle.drivers.specs.declared.Level.{Level}
-use Rattle.drivers.specs.declared.Level.TheVariants.{At, Unknown}
 use Rattle.session.specs.Session.{Turn, is_marked, mark_at, no_marks, unmark_bank, last_move, moved_to, move_of, add_to, first_turn, same_strips}
 use Rattle.session.specs.declared.Marks.{Marks}
 use Rattle.session.specs.declared.Moves.{Moves}
@@ -28,8 +23,6 @@ use Rattle.session.specs.declared.Strip.{Strip}
 use Rattle.event.specs.declared.Input.{Input}
 use Rattle.event.specs.declared.Input.TheVariants as input
 use Rattle.event.specs.declared.Timed.{Timed}
-use Rattle.event.specs.declared.Read.{Read}
-use Rattle.event.specs.declared.Read.TheVariants as event-read
 use Rattle.definition.specs.Rig.{Rig, rig_of, destination, encoder_dest}
 use Rattle.definition.specs.Levels.{normal, read}
 use Rattle.definition.specs.Faders.{is_held, is_zero}
@@ -78,26 +71,26 @@ pub record Past : Type 0 where
 -- "An event not finished (refused, or short of an answer): no step."
 abbrev pub past_at : Ended → Input → Site → Site → List ℕ → Option Past
 past_at (done messages calls used saved) e w z answers =
-    some (record { what = e; before = w; after = z; answers = answers; asked = paired calls answers })
-past_at (refused n) e w z answers = none
-past_at (waiting c) e w z answers = none
+    Some (record { what = e; before = w; after = z; answers = answers; asked = paired calls answers })
+past_at (refused n) e w z answers = None
+past_at (waiting c) e w z answers = None
 
-abbrev pub past_of : Read → Site → List ℕ → Stepped → Option Past
-past_of (event-read.Known e) w answers r = past_at r.ended e.what w r.kept.site answers
-past_of event-read.Unknown w answers r = none
+abbrev pub past_of : Option Timed → Site → List ℕ → Stepped → Option Past
+past_of (Some e) w answers r = past_at r.ended e.what w r.kept.site answers
+past_of None w answers r = None
 
 -- an event, as it was read, and the answers that are there when it is offered. One that cannot be read, number 10, is offered in vain
 pub record Offer : Type 0 where
-  pub event : Read
+  pub event : Option Timed
   pub answers : List ℕ
 
 -- The claim is stated of any step, so that a wrong one can be shown to break it; demand 3 is the claim of the definition's
 abbrev pub Stepper : Type 0
 Stepper = View → Kept → Timed → List ℕ → Stepped
 
-abbrev pub step_of : Stepper → View → Kept → Read → List ℕ → Stepped
-step_of f v k (event-read.Known e) answers = f v k e answers
-step_of f v k event-read.Unknown answers = stepped (refused 10) k
+abbrev pub step_of : Stepper → View → Kept → Option Timed → List ℕ → Stepped
+step_of f v k (Some e) answers = f v k e answers
+step_of f v k None answers = stepped (refused 10) k
 
 unfoldable pub pasts : Stepper → View → Kept → List Offer → List (Option Past)
 pasts f v k [] = []
@@ -158,7 +151,7 @@ blank =
 
 -- "the device reads c": the definition's read, made on the answers that the event was offered. What the event's calls show does not count: a bridge that
 -- does not ask where the rule asks would be believed
-unfoldable pub reading : Destination → List ℕ → List Bool → Level
+unfoldable pub reading : Destination → List ℕ → List Bool → Option Float
 reading d answers o = (read d (start answers o)).value
 
 abbrev pub rig_in : View → Site → Rig
@@ -210,12 +203,12 @@ book_if false key m a = book_taken key m a
 
 -- "held exactly if takeover is on, no mark stands for (bank, channel), the device reads c, |value - c| > 0.02, and the last move p there, if any, does not
 -- give (p - c)(value - c) < 0"; a move without a destination changes nothing
-abbrev pub book_move : Found → ℕ → Waits → List ℕ → Account → Account
-book_move (found.To d) key m answers a =
+abbrev pub book_move : Option Destination → ℕ → Waits → List ℕ → Account → Account
+book_move (Some d) key m answers a =
     book_if
     ((d.takeover && not (is_marked key a.marks)) && is_held (reading d answers a.opened) (last_move key a.last) m.level)
     key m a
-book_move found.Nothing key m answers a = a
+book_move None key m answers a = a
 
 -- ── a turn ──
 
@@ -224,8 +217,8 @@ unfoldable pub summed : Destination → ℤ → List Turn → List Turn
 summed d n [] = first_turn d n ∷ []
 summed d n (x ∷ l) = pick (same_dest x.dest d) (add_to n x ∷ l) (x ∷ summed d n l)
 
-abbrev pub book_turn : Found → ℤ → Account → Account
-book_turn (found.To d) n a =
+abbrev pub book_turn : Option Destination → ℤ → Account → Account
+book_turn (Some d) n a =
     record {
       marks = a.marks;
       last = a.last;
@@ -237,18 +230,18 @@ book_turn (found.To d) n a =
       dropped = a.dropped;
       drains = a.drains;
     }
-book_turn found.Nothing n a = a
+book_turn None n a = a
 
 -- ── a drain ──
 
 -- "in line order a move whose channel now has no destination is dropped, any other tried there"
-abbrev pub try_at : Found → Waits → List Tried → List Tried
-try_at (found.To d) m l = record { id = m.id; dest = d; level = m.level } ∷ l
-try_at found.Nothing m l = l
+abbrev pub try_at : Option Destination → Waits → List Tried → List Tried
+try_at (Some d) m l = record { id = m.id; dest = d; level = m.level } ∷ l
+try_at None m l = l
 
-abbrev pub drop_at : Found → Waits → List ℕ → List ℕ
-drop_at (found.To d) m l = l
-drop_at found.Nothing m l = m.id ∷ l
+abbrev pub drop_at : Option Destination → Waits → List ℕ → List ℕ
+drop_at (Some d) m l = l
+drop_at None m l = m.id ∷ l
 
 unfoldable pub tried_of : Rig → List Waits → List Tried
 tried_of r [] = []
@@ -315,14 +308,14 @@ press_moves v w false note asked = false
 
 -- two live lists of a bank are the same; one that was never asked for is like no other
 abbrev pub same_live : Option (List Strip) → Option (List Strip) → Bool
-same_live none none = true
-same_live none (some l) = false
-same_live (some k) none = false
-same_live (some k) (some l) = same_strips k l
+same_live None None = true
+same_live None (Some l) = false
+same_live (Some k) None = false
+same_live (Some k) (Some l) = same_strips k l
 
 -- the live list that a place has for a bank
 abbrev pub live_at : ℕ → Site → Option (List Strip)
-live_at bank w = get_or w.lives bank none
+live_at bank w = get_or w.lives bank None
 
 -- "a changed live list clears its bank's"
 abbrev pub book_live : Bool → ℕ → Account → Account
@@ -359,8 +352,8 @@ reopen o a =
     }
 
 abbrev pub book : View → ℕ → Option Past → Account → Account
-book v i none a = a
-book v i (some x) a =
+book v i None a = a
+book v i (Some x) a =
     reopen (opens x.asked a.opened) (book_event v i x.what x.before x.after x.answers x.asked a)
 
 unfoldable pub account : View → ℕ → List (Option Past) → Account → Account
@@ -378,9 +371,9 @@ unfoldable pub count : ℕ → List ℕ → ℕ
 count i [] = 0
 count i (x ∷ l) = bump (eqb i x) (count i l)
 
-abbrev pub if_found : Found → ℕ → List ℕ
-if_found (found.To d) i = i ∷ []
-if_found found.Nothing i = []
+abbrev pub if_found : Option Destination → ℕ → List ℕ
+if_found (Some d) i = i ∷ []
+if_found None i = []
 
 abbrev pub move_in : View → ℕ → Input → Site → List ℕ
 move_in v i (input.Midi (event.Fader ch x)) w = if_found (destination (rig_in v w) (ch + 1)) i
@@ -393,8 +386,8 @@ move_in v i input.PushTransport w = []
 move_in v i input.FlashBank w = []
 
 abbrev pub move_at : View → ℕ → Option Past → List ℕ
-move_at v i none = []
-move_at v i (some x) = move_in v i x.what x.before
+move_at v i None = []
+move_at v i (Some x) = move_in v i x.what x.before
 
 -- the finished moves with a destination
 unfoldable pub moves : View → ℕ → List (Option Past) → List ℕ
@@ -410,9 +403,9 @@ unfoldable pub sum_for : Destination → List Turn → ℤ
 sum_for d [] = pos 0
 sum_for d (x ∷ l) = if_same (same_dest x.dest d) x.sum +ℤ sum_for d l
 
-abbrev pub turn_to : Found → ℤ → List Turn
-turn_to (found.To d) n = first_turn d n ∷ []
-turn_to found.Nothing n = []
+abbrev pub turn_to : Option Destination → ℤ → List Turn
+turn_to (Some d) n = first_turn d n ∷ []
+turn_to None n = []
 
 abbrev pub turn_in : View → Input → Site → List Turn
 turn_in v (input.Midi (event.Fader ch x)) w = []
@@ -425,8 +418,8 @@ turn_in v input.PushTransport w = []
 turn_in v input.FlashBank w = []
 
 abbrev pub turn_at : View → Option Past → List Turn
-turn_at v none = []
-turn_at v (some x) = turn_in v x.what x.before
+turn_at v None = []
+turn_at v (Some x) = turn_in v x.what x.before
 
 -- the finished turns with a destination
 unfoldable pub turns : View → List (Option Past) → List Turn
@@ -450,8 +443,8 @@ tick_in input.PushTransport l = []
 tick_in input.FlashBank l = []
 
 abbrev pub tick_at : Option Past → List (List Asked)
-tick_at none = []
-tick_at (some x) = tick_in x.what x.asked
+tick_at None = []
+tick_at (Some x) = tick_in x.what x.asked
 
 unfoldable pub ticks : List (Option Past) → List (List Asked)
 ticks [] = []
@@ -469,8 +462,8 @@ moved_in input.PushTransport l = []
 moved_in input.FlashBank l = []
 
 abbrev pub moved_at : Option Past → List Asked
-moved_at none = []
-moved_at (some x) = moved_in x.what x.asked
+moved_at None = []
+moved_at (Some x) = moved_in x.what x.asked
 
 unfoldable pub moved : List (Option Past) → List Asked
 moved [] = []
@@ -509,7 +502,7 @@ pub data Tries : List Bool → List Tried → List Asked → Type 0 where
       Uses o (writing t.dest t.level) r m → Tries (opens m o) ts l → Tries o (t ∷ ts) (m ++ l)
 
 -- what a read of a destination gives
-abbrev pub read_as : Destination → Reply → Level
+abbrev pub read_as : Destination → Reply → Option Float
 read_as d r = normal d (level_of r.answer)
 
 -- "non-zero encoder sums in first-turned order, one read and, if readable, one write of current + sum/64 held in 0 to 1"
@@ -518,10 +511,10 @@ pub data Nudges : List Bool → List Turn → List Asked → Type 0 where
   zero_sum : {o : List Bool} {e : Turn} {es : List Turn} {l : List Asked} →
       is_zero e.sum ≡ true → Nudges o es l → Nudges o (e ∷ es) l
   not-read : {o : List Bool} {e : Turn} {es : List Turn} {r : Reply} {m l : List Asked} →
-      is_zero e.sum ≡ false → Uses o (reading_of e.dest) r m → read_as e.dest r ≡ Unknown → Nudges (opens m o) es l →
+      is_zero e.sum ≡ false → Uses o (reading_of e.dest) r m → read_as e.dest r ≡ None → Nudges (opens m o) es l →
       Nudges o (e ∷ es) (m ++ l)
   nudged : {o : List Bool} {e : Turn} {es : List Turn} {r q : Reply} {c : Float} {m k l : List Asked} →
-      is_zero e.sum ≡ false → Uses o (reading_of e.dest) r m → read_as e.dest r ≡ At c →
+      is_zero e.sum ≡ false → Uses o (reading_of e.dest) r m → read_as e.dest r ≡ Some c →
       Uses (opens m o) (writing e.dest (nudge c e.sum)) q k → Nudges (opens k (opens m o)) es l →
       Nudges o (e ∷ es) (m ++ (k ++ l))
 

@@ -1,12 +1,9 @@
 -- A plain profile and plain events, for cases that are computed. Definitions only.
-use Rattle.std.specs.Prelude.{ℕ, Bool, true, false, List, [], ◌∷◌, Float}
-use Rattle.base.specs.declared.Place.TheVariants as place
+use Rattle.std.specs.Prelude.{ℕ, Bool, true, false, List, [], ◌∷◌, Float, None, Option, Some}
 use Rattle.float.specs.Leaf.{f0, f1}
 use Rattle.protocol.specs.declared.Event.TheVariants as event
 use Rattle.lookup.specs.View.{Part, View}
 use Rattle.lookup.specs.declared.Destination.{Destination}
-use Rattle.lookup.specs.declared.Found.{Found}
-use Rattle.lookup.specs.declared.Found.TheVariants as found
 use Rattle.event.specs.declared.Input.{Input}
 use Rattle.event.specs.declared.Input.TheVariants as input
 use Rattle.event.specs.declared.Timed.{Timed}
@@ -16,7 +13,7 @@ abbrev pub dest : Bool → Destination
 dest takeover = record { driver = 3; target = 7; label = 0; group = 0; mute = 65535; takeover = takeover; low = f0; high = f1 }
 
 -- a driver of its own and `live`, 65535 for none, what is wired to each fader and encoder, and scenes
-abbrev pub part_with : ℕ → ℕ → Found → List ℕ → Part
+abbrev pub part_with : ℕ → ℕ → Option Destination → List ℕ → Part
 part_with device live f scenes =
     record {
       name = 0;
@@ -38,22 +35,22 @@ view_with p =
       remember = false;
       banks = 2;
       name = λ b. 0;
-      named = λ n. place.Nothing;
-      globals = part_with 65535 65535 found.Nothing [];
+      named = λ n. None;
+      globals = part_with 65535 65535 None [];
       here = λ b. p;
       button = λ d k. 65535;
     }
 
 abbrev pub plain : Bool → View
-plain takeover = view_with (part_with 65535 65535 (found.To (dest takeover)) [])
+plain takeover = view_with (part_with 65535 65535 (Some (dest takeover)) [])
 
 -- banks with one scene, 5
 abbrev pub paged : View
-paged = view_with (part_with 3 65535 (found.To (dest true)) (5 ∷ []))
+paged = view_with (part_with 3 65535 (Some (dest true)) (5 ∷ []))
 
 -- live banks, on driver 3
 abbrev pub alive : View
-alive = view_with (part_with 3 0 found.Nothing [])
+alive = view_with (part_with 3 0 None [])
 
 -- an event at time 0
 abbrev pub timed : Input → Timed

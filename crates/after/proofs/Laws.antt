@@ -1,9 +1,9 @@
 -- The session rebuilt after an event, field by field, is the one that the definition keeps, and its lists stay within their places. Assumes nothing.
+use Rattle.std.proofs.Common.{Some}
 use Prim.Native.Nat.{ℕ, zero, suc, ◌≤◌}
 use mathlib.Core.Path.{◌≡◌, refl, ap}
 use mathlib.Core.Bool.{Bool, true, false, ◌&&◌, ◌||◌, not}
 use mathlib.Core.List.{List, [], ◌∷◌, map}
-use mathlib.Core.Option.{some}
 use native.Mathlib.Omega.{arith}
 use lib.ListN.{set, take}
 use lib.Ieee.{Float}
@@ -81,7 +81,7 @@ all_set f (y ∷ l) zero x h e = rw h (right_of (f y) (all_of f l) e)
 all_set f (y ∷ l) (suc i) x h e = rw (left_of_lem (f y) (all_of f l) e) (all_set f l i x h (right_of (f y) (all_of f l) e))
 
 -- a list that is known is seen
-seen-known : (s : Strips) → s.known ≡ true → seen_strips s ≡ some (strips_or (seen_strips s))
+seen-known : (s : Strips) → s.known ≡ true → seen_strips s ≡ Some (strips_or (seen_strips s))
 unfolding seen_strips
 seen-known s e = rw e
 

@@ -1,4 +1,5 @@
 -- The next bank on either side, and selecting it from what its calls promise. Assumes nothing.
+use Rattle.std.proofs.Common.{Option}
 use mathlib.Core.Path.{◌≡◌}
 use mathlib.Core.Bool.{Bool, true, false, not}
 use mathlib.Core.List.{List}
@@ -8,7 +9,6 @@ use lib.Ieee.{Float}
 use lib.Dec.{ltb}
 use borrow.Author.Tests.{not-true, not-false, lt-leb, eq-eqb, ne_eqb}
 use Rattle.drivers.specs.Talk.{Talk, Got, got, next}
-use Rattle.drivers.specs.declared.Level.{Level}
 use Rattle.session.specs.declared.Lamps.{Lamps}
 use Rattle.definition.specs.Rig.{Rig}
 use Rattle.definition.specs.Lamps.{push_state}
@@ -42,7 +42,7 @@ module _ (right : Bool) (banks bank : ℕ) where
 
 -- ── selecting it: home is the last move of the flash's row there ──
 
-module _ (r : Rig) (l : Lamps) (s : List ℕ) (home : Level) (now : Float) (t : Talk) where
+module _ (r : Rig) (l : Lamps) (s : List ℕ) (home : Option Float) (now : Float) (t : Talk) where
   pub shows_bank : (x : Got Lamps) → Shows r l s home now r.here.bank 0 t x → ShowsBank r l s home now t x
   unfolding flash_bank
   shows_bank x f m h = f m h

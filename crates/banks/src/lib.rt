@@ -11,7 +11,7 @@ ghost use Rattle.rig.specs.Seen.{rig_in};
 ghost use Rattle.surface.specs.Home.{has_note};
 ghost use Rattle.banks.specs.Steps.{seen_selected, ShowsBank, Selects, Steps};
 
-use drivers::{Io, Level};
+use drivers::Io;
 use rig::Current;
 use session::Lamps;
 use surface::flash::Flashed;
@@ -36,7 +36,7 @@ pub fn flash_bank(
     lamps: Lamps,
     targets: &[u16; 256],
     hushed: usize,
-    home: Level,
+    home: Option<f64>,
     time: f64,
 ) -> Flashed
     requires count_bound { here.strips.count ≤ 8 }
@@ -72,7 +72,7 @@ pub fn select_bank(
     lamps: Lamps,
     targets: &[u16; 256],
     hushed: usize,
-    home: Level,
+    home: Option<f64>,
     time: f64,
 ) -> Selected
     requires count_bound { there.strips.count ≤ 8 }
@@ -125,7 +125,7 @@ pub fn step_bank(
     lamps: Lamps,
     targets: &[u16; 256],
     hushed: usize,
-    home: Level,
+    home: Option<f64>,
     time: f64,
 ) -> Selected
     requires count_bound { there.strips.count ≤ 8 }

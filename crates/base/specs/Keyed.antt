@@ -1,7 +1,6 @@
 -- What the bridge does with a list that it looks into by a test. No capacity and no index: definitions are made of these, and code keeps such a list
 -- as the first n of an array (KeyedLaws.antt). Definitions only.
-use Rattle.std.specs.Prelude.{Bool, true, false, List, [], ◌∷◌, ℕ, suc}
-use Rattle.std.proofs.Math.Option.{Option, none, some}
+use Rattle.std.specs.Prelude.{Bool, true, false, List, [], ◌∷◌, ℕ, suc, None, Option, Some}
 use Rattle.base.specs.Choice.{pick}
 
 module _ {A : Type 0} where
@@ -12,8 +11,8 @@ module _ {A : Type 0} where
 
   -- the first that passes
   unfoldable pub find : (A → Bool) → List A → Option A
-  find f [] = none
-  find f (x ∷ xs) = pick (f x) (some x) (find f xs)
+  find f [] = None
+  find f (x ∷ xs) = pick (f x) (Some x) (find f xs)
 
   unfoldable pub any_of : (A → Bool) → List A → Bool
   any_of f [] = false

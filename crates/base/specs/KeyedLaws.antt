@@ -1,10 +1,9 @@
 -- The lists of Keyed.antt, kept as the first n of an array xs. Each law holds for every array; its capacity is `length xs`. Assumes nothing.
-use Rattle.std.specs.Prelude.{◌≡◌, Bool, get_or, take, ltb, leb}
+use Rattle.std.specs.Prelude.{◌≡◌, Bool, get_or, take, ltb, leb, None, Some}
 use Rattle.std.proofs.Math.Path.{refl, ap}
 use Rattle.std.proofs.Common.{sym, ◌∙◌, subst, true≢false, add-one, take-suc, take-suc-set, get_or-take, length-take-le, leb-false, ltb-true, ltb-false}
 use Rattle.std.proofs.Math.Bool.{true, false}
 use mathlib.Core.List.{List, [], ◌∷◌, ◌++◌, map, append-nil}
-use Rattle.std.proofs.Math.Option.{none, some}
 use Prim.Native.Nat.{ℕ, zero, suc, ◌+◌, ◌≤◌, ◌<◌}
 use native.Mathlib.Omega.{arith}
 use Rattle.std.proofs.Math.ListN.{length, set}
@@ -73,23 +72,23 @@ module _ {A : Type 0} (f : A → Bool) (d : A) where
       go false k = omega arith
 
   -- ── what is at the place that a search gave ──
-  pub find_at : (xs : List A) → at f xs < length xs → find f xs ≡ some (get_or xs (at f xs) d)
+  pub find_at : (xs : List A) → at f xs < length xs → find f xs ≡ Some (get_or xs (at f xs) d)
   unfolding at find
   find_at [] h = absurd (omega arith)
   find_at (x ∷ xs) h = go (f x) h (find_at xs)
     where
-      go : (b : Bool) → pick b 0 (suc (at f xs)) < suc (length xs) → (at f xs < length xs → find f xs ≡ some (get_or xs (at f xs) d)) →
-          pick b (some x) (find f xs) ≡ some (get_or (x ∷ xs) (pick b 0 (suc (at f xs))) d)
+      go : (b : Bool) → pick b 0 (suc (at f xs)) < suc (length xs) → (at f xs < length xs → find f xs ≡ Some (get_or xs (at f xs) d)) →
+          pick b (Some x) (find f xs) ≡ Some (get_or (x ∷ xs) (pick b 0 (suc (at f xs))) d)
       go true k ih = refl
       go false k ih = ih (omega arith)
 
-  pub find_no : (xs : List A) → length xs ≤ at f xs → find f xs ≡ none
+  pub find_no : (xs : List A) → length xs ≤ at f xs → find f xs ≡ None
   unfolding at find
   find_no [] h = refl
   find_no (x ∷ xs) h = go (f x) h (find_no xs)
     where
-      go : (b : Bool) → suc (length xs) ≤ pick b 0 (suc (at f xs)) → (length xs ≤ at f xs → find f xs ≡ none) →
-          pick b (some x) (find f xs) ≡ none
+      go : (b : Bool) → suc (length xs) ≤ pick b 0 (suc (at f xs)) → (length xs ≤ at f xs → find f xs ≡ None) →
+          pick b (Some x) (find f xs) ≡ None
       go true k ih = absurd (omega arith)
       go false k ih = ih (omega arith)
 
@@ -140,10 +139,10 @@ module _ {A : Type 0} (f : A → Bool) (d : A) where
     pub found_le : n ≤ length xs → i ≤ n
     found_le l = omega (arith, seen_long l, at-le (take n xs))
 
-    pub found : n ≤ length xs → i < n → find f (take n xs) ≡ some (get_or xs i d)
+    pub found : n ≤ length xs → i < n → find f (take n xs) ≡ Some (get_or xs i d)
     found l h = find_at (take n xs) (omega (arith, seen_long l)) ∙ rw (← e, get_or-take)
 
-    pub not_found : n ≤ length xs → n ≤ i → find f (take n xs) ≡ none
+    pub not_found : n ≤ length xs → n ≤ i → find f (take n xs) ≡ None
     not_found l h = find_no (take n xs) (omega (arith, seen_long l))
 
     pub is_there : n ≤ length xs → i < n → any_of f (take n xs) ≡ true

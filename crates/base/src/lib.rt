@@ -1,15 +1,8 @@
 #![tactic(auto)]
 
-// What every other crate shares: little-endian numbers in bytes, and the answer of a search. The definitions and laws are in specs/.
+// What every other crate shares: little-endian numbers in bytes. The definitions and laws are in specs/.
 ghost use Rattle.std.specs.Prelude.{◌≡◌, ◌+◌, ◌≤◌, length};
 ghost use Rattle.base.specs.Words.{le16, le32, le64, put16, put32, put64};
-
-// Where a search found what it looked for.
-#[derive(Clone, Copy)]
-pub enum Place {
-    At(usize),
-    Nothing,
-}
 
 pub fn read_u16(s: &[u8], at: usize) -> u16
     requires { at + 2 ≤ length s.now }

@@ -2,8 +2,7 @@
 use Rattle.std.specs.Prelude.{ℕ, ◌≤◌, ◌≡◌, Bool, List, ltb, length, Float}
 use Rattle.std.proofs.Math.Path.{refl}
 use Rattle.std.proofs.Math.Bool.{true, false}
-use Rattle.std.proofs.Math.Option.{none}
-use Rattle.std.proofs.Common.{arith, eqb-true, ltb-false}
+use Rattle.std.proofs.Common.{arith, eqb-true, ltb-false, None}
 use Rattle.std.proofs.Math.Dec.{eqb}
 use Rattle.std.proofs.Math.ListN.{get_or}
 use Rattle.base.specs.Choice.{pick}
@@ -103,7 +102,7 @@ module _ (p : List ℕ) (yes : verdict p ≡ 0) (k : Kept) (well : Well p k) whe
   tick_well : (due : Bool) (now : Float) (t : Talk) → WellLeft p (tick_with due v k now t).value
   unfolding next
   tick_well due now t =
-      let known = get_or k.site.lives k.site.bank none in
+      let known = get_or k.site.lives k.site.bank None in
       let u = drain (rig_now v k) k.desk t in
       let r = refresh_due due known (rig_now v k) k.lamps (targets_of k.silenced) u in
       let strips = refresh_well (rig_now v k) ((accepted_sound p yes).drivers.devices k.site.bank) (well.lives k.site.bank) due known k.lamps (targets_of k.silenced) u in

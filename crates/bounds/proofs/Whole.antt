@@ -1,7 +1,7 @@
 -- An event as the host offers it, in bytes: one that is done passed the numbers 1 to 10, and the laws of an event hold of it from the session's struct on.
 use Rattle.std.specs.Prelude.{ℕ, ◌≤◌, ◌<◌, ◌≡◌, Bool, ◌||◌, List, eqb, length, get_or}
 use Rattle.std.proofs.Math.Path.{refl}
-use Rattle.std.proofs.Common.{subst, arith, eqb-true}
+use Rattle.std.proofs.Common.{subst, arith, eqb-true, None, Option, Some}
 use Rattle.std.proofs.Math.Bool.{true, false}
 use Rattle.std.proofs.Math.Dec.{ltb}
 use Rattle.base.specs.Choice.{pick}
@@ -10,8 +10,6 @@ use Rattle.lookup.specs.View.{view_of}
 use Rattle.drivers.specs.declared.Call.{Call}
 use Rattle.session.specs.declared.Session.{Session}
 use Rattle.event.specs.Event.{read_of}
-use Rattle.event.specs.declared.Read.{Read}
-use Rattle.event.specs.declared.Read.TheVariants.{Known, Unknown}
 use Rattle.event.specs.declared.Timed.{Timed}
 use Rattle.definition.specs.Shape.{well_shaped}
 use Rattle.definition.specs.Step.{Kept, seen, done, refused, Stepped, stepped, step}
@@ -34,7 +32,7 @@ module _ (p : List ℕ) (s : Session) (record_of answers : List ℕ) (messages c
     accepted : verdict p ≡ 0
     shaped : well_shaped p s ≡ true
     event : Timed
-    read : read_of record_of ≡ Known event
+    read : read_of record_of ≡ Some event
     so : x ≡ step (view_of p) (seen p s) event answers
 
   module _ (ms : List (List ℕ)) (cs : List Call) (used : ℕ) (saved : Bool) where
@@ -48,9 +46,9 @@ module _ (p : List ℕ) (s : Session) (record_of answers : List ℕ) (messages c
         k : Kept
         k = seen p s
 
-        read_at : (r : Read) → read_of record_of ≡ r → verdict p ≡ 0 → well_shaped p s ≡ true → IsDone (offered r p k answers) → Passed (offered r p k answers)
-        read_at (Known e) i a w h = record { accepted = a; shaped = w; event = e; read = i; so = refl }
-        read_at Unknown i a w h = absurd (not_done 10 h)
+        read_at : (r : Option Timed) → read_of record_of ≡ r → verdict p ≡ 0 → well_shaped p s ≡ true → IsDone (offered r p k answers) → Passed (offered r p k answers)
+        read_at (Some e) i a w h = record { accepted = a; shaped = w; event = e; read = i; so = refl }
+        read_at None i a w h = absurd (not_done 10 h)
 
         room_at_lem : (b : Bool) → verdict p ≡ 0 → well_shaped p s ≡ true → IsDone (pick b (stepped (refused 9) k) (offered (read_of record_of) p k answers)) →
             Passed (pick b (stepped (refused 9) k) (offered (read_of record_of) p k answers))

@@ -1,5 +1,5 @@
 -- An event that was read from bytes has a fader's channel of 0 to 15 only, "the low four" bits of the status, and turns of -191 to 63.
-use Rattle.std.specs.Prelude.{ℕ, zero, suc, ◌/◌, ◌-◌, ◌≤◌, ◌<◌, ◌≡◌, refl, Bool, true, false, ◌&&◌, List, [], ◌∷◌, eqb, leb, ltb, length, get_or, take, drop, pos, neg_ℤ}
+use Rattle.std.specs.Prelude.{ℕ, zero, suc, ◌/◌, ◌-◌, ◌≤◌, ◌<◌, ◌≡◌, refl, Bool, true, false, ◌&&◌, List, [], ◌∷◌, eqb, leb, ltb, length, get_or, take, drop, pos, neg_ℤ, None, Option, Some}
 use Rattle.std.proofs.Common.{subst, arith, le-leb, ltb-true}
 use Rattle.base.specs.Choice.{pick}
 use Rattle.base.specs.RangeLaws.{and_right}
@@ -8,8 +8,6 @@ use Rattle.protocol.specs.declared.Event.{Event}
 use Rattle.event.specs.Event.{event_ok, message_of, input_of, timed_of, read_of}
 use Rattle.event.specs.declared.Input.{Input}
 use Rattle.event.specs.declared.Timed.{Timed}
-use Rattle.event.specs.declared.Read.{Read}
-use Rattle.event.specs.declared.Read.TheVariants.{Known, Unknown}
 use Rattle.definition.specs.Faders.{in_range}
 use Rattle.bounds.specs.Room.{LowEvent, LowInput}
 
@@ -75,17 +73,17 @@ input_low s h =
     (pick_input (eqb (get_or s 0 0) 2) _ _ tt (pick_input (eqb (get_or s 0 0) 3) _ _ tt (pick_input (eqb (get_or s 0 0) 4) _ _ tt tt)))
 
 -- what was read
-abbrev LowRead : Read → Type 0
-LowRead (Known e) = LowInput e.what
-LowRead Unknown = Unit {0}
+abbrev LowRead : Option Timed → Type 0
+LowRead (Some e) = LowInput e.what
+LowRead None = Unit {0}
 
 read_so : (s : List ℕ) → Bytes s → LowRead (read_of s)
 unfolding read_of
 read_so s h = at (event_ok s)
   where
-    at : (b : Bool) → LowRead (pick b (Known (timed_of s)) Unknown)
+    at : (b : Bool) → LowRead (pick b (Some (timed_of s)) None)
     at true = input_low s h
     at false = tt
 
-pub read_low : (s : List ℕ) → ((j : ℕ) → get_or s j 0 < 256) → (e : Timed) → read_of s ≡ Known e → LowInput e.what
-read_low s h e q = subst (λ (r : Read). LowRead r) q (read_so s h)
+pub read_low : (s : List ℕ) → ((j : ℕ) → get_or s j 0 < 256) → (e : Timed) → read_of s ≡ Some e → LowInput e.what
+read_low s h e q = subst (λ (r : Option Timed). LowRead r) q (read_so s h)

@@ -1,18 +1,16 @@
 -- Which drivers an event can use: those of the profile, of the live lists and of the encoders' sums. Definitions only.
-use Rattle.std.specs.Prelude.{ℕ, ◌≡◌, false, List, [], ◌∷◌, eqb, get_or}
-use Rattle.std.proofs.Math.Option.{none}
+use Rattle.std.specs.Prelude.{ℕ, ◌≡◌, false, List, [], ◌∷◌, eqb, get_or, None, Option, Some}
 use Rattle.lookup.specs.View.{View}
 use Rattle.lookup.specs.declared.Entry.{Entry}
-use Rattle.lookup.specs.declared.Found.{Found}
-use Rattle.lookup.specs.declared.Found.TheVariants as found
 use Rattle.session.specs.Session.{Turn, strips_or}
 use Rattle.session.specs.declared.Strip.{Strip}
 use Rattle.definition.specs.Step.{Kept}
+use Rattle.lookup.specs.declared.Destination.{Destination}
 
 -- a destination's driver may be used
-abbrev pub MayTo : (ℕ → Type 0) → Found → Type 0
-MayTo D (found.To d) = D d.driver
-MayTo D found.Nothing = Unit {0}
+abbrev pub MayTo : (ℕ → Type 0) → Option Destination → Type 0
+MayTo D (Some d) = D d.driver
+MayTo D None = Unit {0}
 
 -- and so may those of a list of commands
 pub data MayAll (D : ℕ → Type 0) : List Entry → Type 0 where
@@ -42,5 +40,5 @@ pub record MayView (D : ℕ → Type 0) (v : View) : Type 0 where
 
 -- and those that the session does
 pub record MayKept (D : ℕ → Type 0) (k : Kept) : Type 0 where
-  pub lives : (b : ℕ) → Each (MayStrip D) (strips_or (get_or k.site.lives b none))
+  pub lives : (b : ℕ) → Each (MayStrip D) (strips_or (get_or k.site.lives b None))
   pub turns : Each (MayTurn D) k.desk.turns

@@ -1,24 +1,19 @@
 -- What any event costs at most, by its kind: every driver that it uses is one that the profile or the session names.
 use Prim.Native.Nat.{ℕ, zero, suc, ◌+◌, ◌*◌}
-use Rattle.std.specs.Prelude.{◌≡◌, Bool, length, get_or, Float}
+use Rattle.std.specs.Prelude.{◌≡◌, Bool, length, get_or, Float, None, Option, Some}
 use Rattle.std.proofs.Math.Path.{refl}
 use Rattle.std.proofs.Math.Bool.{true, false}
 use Rattle.std.proofs.Common.{true≢false, arith}
 use mathlib.Core.List.{List, [], ◌∷◌, ◌++◌}
-use Rattle.std.proofs.Math.Option.{Option, none}
 use Rattle.std.proofs.Math.Dec.{eqb}
 use Rattle.base.specs.Choice.{pick}
 use Rattle.base.specs.Keyed.{change}
 use Rattle.base.specs.First.{first}
-use Rattle.base.specs.declared.Place.{Place}
-use Rattle.base.specs.declared.Place.TheVariants as place
 use Rattle.protocol.specs.declared.Event.{Event}
 use Rattle.protocol.specs.declared.Event.TheVariants as event
 use Rattle.lookup.specs.Lookup.{precede, of_kind, merged, place as placed, top_at, value_at, most_common}
 use Rattle.lookup.specs.View.{View}
 use Rattle.lookup.specs.declared.Entry.{Entry}
-use Rattle.lookup.specs.declared.Found.{Found}
-use Rattle.lookup.specs.declared.Found.TheVariants as found
 use Rattle.session.specs.Session.{targets_of, strips_or, strip_at, found_strip}
 use Rattle.session.specs.declared.Strip.{Strip}
 use Rattle.event.specs.declared.Input.{Input}
@@ -33,6 +28,7 @@ use Rattle.bounds.specs.Spending.{Rules, Takes, still, done, giving, up_to, behi
 use Rattle.bounds.specs.Surface.{end_cost, push_costs, flash_bank_takes, tick_flash_takes, bound_costs}
 use Rattle.bounds.specs.Hands.{strip_may, with_may, fader_takes, drain_costs, refresh_takes, refresh-leaves}
 use Rattle.bounds.specs.Presses.{MayRig, button_takes}
+use Rattle.lookup.specs.declared.Destination.{Destination}
 
 -- ── the drivers of a bank ──
 
@@ -46,17 +42,17 @@ module _ (D : ℕ → Type 0) where
   each_at (x ∷ l) zero (one_more d h) z = d
   each_at (x ∷ l) (suc i) (one_more d h) z = each_at l i h z
 
-  driver_may : (f : Found) → MayTo D f → Each D (driver_in f)
-  driver_may (found.To d) h = one_more h no_more
-  driver_may found.Nothing h = no_more
+  driver_may : (f : Option Destination) → MayTo D f → Each D (driver_in f)
+  driver_may (Some d) h = one_more h no_more
+  driver_may None h = no_more
 
   common_may : (l : List ℕ) → Each D l → D 0 → eqb (most_common l) 65535 ≡ false → D (most_common l)
   unfolding most_common
   common_may l h z e = go (first (length l) (top_at l)) e
     where
-      go : (p : Place) → eqb (value_at l p) 65535 ≡ false → D (value_at l p)
-      go (place.At i) q = each_at l i h z
-      go place.Nothing q = absurd (true≢false q)
+      go : (p : Option ℕ) → eqb (value_at l p) 65535 ≡ false → D (value_at l p)
+      go (Some i) q = each_at l i h z
+      go None q = absurd (true≢false q)
 
   place_may : (e : Entry) (l : List Entry) → D e.command.driver → MayAll D l → MayAll D (placed e l)
   unfolding placed change
@@ -72,22 +68,22 @@ module _ (D : ℕ → Type 0) where
   merged_may [] own h k = k
   merged_may (e ∷ g) own (one_entry d h) k = merged_may g (placed e own) h (place_may e own d k)
 
-  module _ (v : View) (may : MayView D v) (lives : Lives) (b : ℕ) (strips : Each (MayStrip D) (strips_or (get_or lives b none))) where
+  module _ (v : View) (may : MayView D v) (lives : Lives) (b : ℕ) (strips : Each (MayStrip D) (strips_or (get_or lives b None))) where
     own_may : (n : ℕ) → MayTo D (own_fader (here_of v lives b) n)
     unfolding own_fader
     own_may n = go (eqb (v.here b).live 65535)
       where
-        go : (c : Bool) → MayTo D (pick c ((v.here b).fader n) (found_strip (strip_at n (strips_or (get_or lives b none)))))
+        go : (c : Bool) → MayTo D (pick c ((v.here b).fader n) (found_strip (strip_at n (strips_or (get_or lives b None)))))
         go true = may.faders b n
-        go false = strip_may D n (strips_or (get_or lives b none)) strips
+        go false = strip_may D n (strips_or (get_or lives b None)) strips
 
     to_may : (n : ℕ) → MayTo D (destination (rig_of v lives b) n)
     unfolding destination
     to_may n = go (v.globals.fader n) (may.globals n) (own_may n)
       where
-        go : (g : Found) → MayTo D g → MayTo D (own_fader (here_of v lives b) n) → MayTo D (precede g (own_fader (here_of v lives b) n))
-        go (found.To d) h k = h
-        go found.Nothing h k = k
+        go : (g : Option Destination) → MayTo D g → MayTo D (own_fader (here_of v lives b) n) → MayTo D (precede g (own_fader (here_of v lives b) n))
+        go (Some d) h k = h
+        go None h k = k
 
     drivers_may : (n : ℕ) → Each D (own_drivers (here_of v lives b) n)
     unfolding own_drivers
@@ -156,7 +152,7 @@ module _ {D : ℕ → Type 0} (R : Rules D) (v : View) (k : Kept) (may : MayView
   midi_takes event.Other now = still R
 
   abbrev known : Option (List Strip)
-  known = get_or k.site.lives k.site.bank none
+  known = get_or k.site.lives k.site.bank None
 
   flash_takes : (due : Bool) (now : Float) (r : Refreshed) → Each (MayStrip D) r.strips →
       Takes R (end_cost k.lamps.flash.on k.lamps.flash.sent) 16 (flash_tick due v k now r)

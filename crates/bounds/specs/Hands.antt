@@ -1,9 +1,8 @@
 -- What the drain, a fader's move and a live list cost: two calls for each sum, a call and a message for each waiting move, one call for a move.
-use Rattle.std.specs.Prelude.{ℕ, zero, suc, ◌+◌, ◌*◌, ◌≡◌, refl, Bool, ◌&&◌, ◌||◌, not, length, take, ℤ, Float}
+use Rattle.std.specs.Prelude.{ℕ, zero, suc, ◌+◌, ◌*◌, ◌≡◌, refl, Bool, ◌&&◌, ◌||◌, not, length, take, ℤ, Float, None, Option, Some}
 use Rattle.std.proofs.Math.Bool.{true, false}
 use Rattle.std.proofs.Common.{true≢false, arith}
 use mathlib.Core.List.{List, [], ◌∷◌, map}
-use Rattle.std.proofs.Math.Option.{Option, some}
 use Rattle.std.proofs.Math.Dec.{eqb}
 use Rattle.base.specs.Choice.{pick}
 use Rattle.base.specs.Keyed.{find, keep}
@@ -11,11 +10,7 @@ use Rattle.float.specs.Leaf.{nudge}
 use Rattle.protocol.specs.Protocol.{sent_to}
 use Rattle.lookup.specs.Lookup.{precede}
 use Rattle.lookup.specs.declared.Destination.{Destination}
-use Rattle.lookup.specs.declared.Found.{Found}
-use Rattle.lookup.specs.declared.Found.TheVariants as found
 use Rattle.drivers.specs.Talk.{Talk, next, plain_call, live_of}
-use Rattle.drivers.specs.declared.Level.{Level}
-use Rattle.drivers.specs.declared.Level.TheVariants.{At, Unknown}
 use Rattle.drivers.specs.declared.LiveFader.{LiveFader}
 use Rattle.session.specs.Session.{Turn, is_marked, strip_of, strips_of, strip_at, is_strip, strip_dest, found_strip, on_surface}
 use Rattle.session.specs.declared.Lamps.{Lamps}
@@ -51,7 +46,7 @@ module _ (D : ℕ → Type 0) where
   strip_may n [] h = tt
   strip_may n (x ∷ l) (one_more d h) = go (is_strip n x) (strip_may n l h)
     where
-      go : (b : Bool) → MayTo D (found_strip (find (is_strip n) l)) → MayTo D (found_strip (pick b (some x) (find (is_strip n) l)))
+      go : (b : Bool) → MayTo D (found_strip (find (is_strip n) l)) → MayTo D (found_strip (pick b (Some x) (find (is_strip n) l)))
       go true k = d
       go false k = k
 
@@ -60,10 +55,10 @@ module _ (D : ℕ → Type 0) where
   unfolding destination own_fader
   with_may r to l h n = go (r.globals.fader n) (eqb r.here.part.live 65535) (found_strip (strip_at n r.here.strips)) (found_strip (strip_at n l)) (to n) (strip_may n l h)
     where
-      go : (g : Found) (b : Bool) (x y : Found) → MayTo D (precede g (pick b (r.here.part.fader n) x)) → MayTo D y → MayTo D (precede g (pick b (r.here.part.fader n) y))
-      go (found.To d) b x y p q = p
-      go found.Nothing true x y p q = p
-      go found.Nothing false x y p q = q
+      go : (g : Option Destination) (b : Bool) (x y : Option Destination) → MayTo D (precede g (pick b (r.here.part.fader n) x)) → MayTo D y → MayTo D (precede g (pick b (r.here.part.fader n) y))
+      go (Some d) b x y p q = p
+      go None true x y p q = p
+      go None false x y p q = q
 
 module _ {D : ℕ → Type 0} (R : Rules D) where
   -- ── a move ──
@@ -71,18 +66,18 @@ module _ {D : ℕ → Type 0} (R : Rules D) where
   fader_if_takes true e k ch x d h = bind R (takes_read R e h) (λ c. done R)
   fader_if_takes false e k ch x d h = still R
 
-  fader_to_takes : (f : Found) (k ch : ℕ) (x : Float) (d : Desk) → MayTo D f → Takes R 0 1 (fader_to f k ch x d)
-  fader_to_takes (found.To e) k ch x d h = fader_if_takes (e.takeover && not (is_marked k d.marks)) e k ch x d h
-  fader_to_takes found.Nothing k ch x d h = still R
+  fader_to_takes : (f : Option Destination) (k ch : ℕ) (x : Float) (d : Desk) → MayTo D f → Takes R 0 1 (fader_to f k ch x d)
+  fader_to_takes (Some e) k ch x d h = fader_if_takes (e.takeover && not (is_marked k d.marks)) e k ch x d h
+  fader_to_takes None k ch x d h = still R
 
   pub fader_takes : (r : Rig) → ((n : ℕ) → MayTo D (destination r n)) → (ch : ℕ) (x : Float) (d : Desk) → Takes R 0 1 (fader r ch x d)
   unfolding fader
   fader_takes r to ch x d = fader_to_takes (destination r (ch + 1)) (key_of r ch) ch x d (to (ch + 1))
 
   -- ── the drain ──
-  from_costs : (e : Destination) (sum : ℤ) (c : Level) → D e.driver → Costs R 0 1 (nudge_from c e sum)
-  from_costs e sum (At c) h = line_of R (takes_write R e (nudge c sum) h)
-  from_costs e sum Unknown h = stay R
+  from_costs : (e : Destination) (sum : ℤ) (c : Option Float) → D e.driver → Costs R 0 1 (nudge_from c e sum)
+  from_costs e sum (Some c) h = line_of R (takes_write R e (nudge c sum) h)
+  from_costs e sum None h = stay R
 
   nudge_if_costs : (b : Bool) (e : Turn) → MayTurn D e → Costs R 0 2 (nudge_if b e)
   nudge_if_costs true e h = stay R
@@ -97,10 +92,10 @@ module _ {D : ℕ → Type 0} (R : Rules D) where
   align_costs true ch x = says R (sent_to ch x)
   align_costs false ch x = stay R
 
-  move_costs : (b : Bool) (f : Found) (m : Move) → MayTo D f → Costs R 1 1 (write_move b f m)
-  move_costs b (found.To e) m h =
+  move_costs : (b : Bool) (f : Option Destination) (m : Move) → MayTo D f → Costs R 1 1 (write_move b f m)
+  move_costs b (Some e) m h =
       onto R {f = write e m.level} (takes_write R e m.level h) (λ v. align_costs (v && b) m.channel m.level)
-  move_costs b found.Nothing m h = stay R
+  move_costs b None m h = stay R
 
   module _ (r : Rig) (to : (n : ℕ) → MayTo D (destination r n)) where
     writes_cost : (l : List Move) → Costs R (length l) (length l) (writes r l)

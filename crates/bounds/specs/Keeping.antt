@@ -1,13 +1,10 @@
 -- What every answer taken, every open and every message keep of the line, every event keeps. Assumes nothing.
-use Rattle.std.specs.Prelude.{ℕ, ◌≡◌, refl, Bool, List, [], ◌∷◌, eqb, leb, length, get_or}
+use Rattle.std.specs.Prelude.{ℕ, ◌≡◌, refl, Bool, List, [], ◌∷◌, eqb, leb, length, get_or, None, Option, Some}
 use Rattle.std.proofs.Math.Bool.{true, false}
-use Rattle.std.proofs.Math.Option.{none}
 use Rattle.protocol.specs.Protocol.{bytes_of}
 use Rattle.protocol.specs.declared.Out.{Out}
 use Rattle.lookup.specs.View.{View}
 use Rattle.lookup.specs.declared.Entry.{Entry}
-use Rattle.lookup.specs.declared.Found.{Found}
-use Rattle.lookup.specs.declared.Found.TheVariants as found
 use Rattle.drivers.specs.Answers.{answer_of, item_count, is_unfit, is_done}
 use Rattle.drivers.specs.Talk.{Stop, going, waits, declined, overrun, Talk, next, start, halted, took, ask, ask_at, ask_room, ask_left, ask_fit, plain_call, opening, is_open, open_for, open_if, opened_by, ask_if, use_call, send, send_at, send_room}
 use Rattle.drivers.specs.declared.Call.{Call}
@@ -18,15 +15,16 @@ use Rattle.definition.specs.Step.{Kept, act}
 use Rattle.bounds.specs.Drivers.{MayTo, MayAll, no_entry_lem, one_entry, Each, no_more, one_more, MayTurn, MayStrip, MayView, MayKept}
 use Rattle.bounds.specs.Spending.{Spent, spending}
 use Rattle.bounds.specs.Events.{act_takes}
+use Rattle.lookup.specs.declared.Destination.{Destination}
 
 -- ── any driver ──
 
 abbrev pub Any : ℕ → Type 0
 Any driver = Unit {0}
 
-any_to : (f : Found) → MayTo Any f
-any_to (found.To d) = tt
-any_to found.Nothing = tt
+any_to : (f : Option Destination) → MayTo Any f
+any_to (Some d) = tt
+any_to None = tt
 
 any-all : (l : List Entry) → MayAll Any l
 any-all [] = no_entry_lem
@@ -52,7 +50,7 @@ any_view v =
     }
 
 pub any-kept : (k : Kept) → MayKept Any k
-any-kept k = record { lives = λ b. any_strips (strips_or (get_or k.site.lives b none)); turns = any-turns k.desk.turns }
+any-kept k = record { lives = λ b. any_strips (strips_or (get_or k.site.lives b None)); turns = any-turns k.desk.turns }
 
 -- ── the line ──
 

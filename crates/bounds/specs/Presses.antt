@@ -1,28 +1,19 @@
 -- What a press costs at most: 89 messages and 64 calls.
 use Prim.Native.Nat.{ℕ, zero, suc, ◌+◌, ◌-◌, ◌*◌}
-use Rattle.std.specs.Prelude.{◌≡◌, Bool, ◌||◌, leb, length, get_or, Float}
+use Rattle.std.specs.Prelude.{◌≡◌, Bool, ◌||◌, leb, length, get_or, Float, None, Option, Some}
 use Rattle.std.proofs.Math.Path.{refl}
 use Rattle.std.proofs.Math.Bool.{true, false}
 use Rattle.std.specs.Bool.{beq}
 use mathlib.Core.List.{List, [], ◌∷◌}
-use Rattle.std.proofs.Math.Option.{Option, none, some}
 use Rattle.std.proofs.Common.{arith}
 use Rattle.std.proofs.Math.Dec.{eqb}
 use Rattle.base.specs.Choice.{pick}
 use Rattle.base.specs.Keyed.{find}
-use Rattle.base.specs.declared.Place.{Place}
-use Rattle.base.specs.declared.Place.TheVariants as place
 use Rattle.protocol.specs.Protocol.{kind_of, channel_of}
 use Rattle.lookup.specs.Lookup.{transport_of, bound_by, of_kind, before}
 use Rattle.lookup.specs.declared.Destination.{Destination}
 use Rattle.lookup.specs.declared.Entry.{Entry}
-use Rattle.lookup.specs.declared.Found.{Found}
-use Rattle.lookup.specs.declared.Found.TheVariants as found
-use Rattle.lookup.specs.declared.Bound.{Bound}
-use Rattle.lookup.specs.declared.Bound.TheVariants as bound
 use Rattle.drivers.specs.Talk.{Talk, Act, next, plain_call, toggle_of, command_of, scenes_of, current_of, load_of, open_for}
-use Rattle.drivers.specs.declared.Index.{Index}
-use Rattle.drivers.specs.declared.Index.TheVariants as index
 use Rattle.session.specs.Session.{Hushed, targets_of, is_hushed, scene_at, solo_to, none_noted, loaded_by}
 use Rattle.session.specs.declared.Lamps.{Lamps}
 use Rattle.session.specs.declared.Moves.{Moves}
@@ -35,11 +26,12 @@ use Rattle.definition.specs.Buttons.{Press, Pressed, pressed, of_bank, of_scene,
 use Rattle.bounds.specs.Drivers.{MayTo, MayAll, one_entry}
 use Rattle.bounds.specs.Spending.{Rules, Costs, Takes, stay, more, still, done, giving, line_of, up_to, behind, onto, onto_so, bind, takes_open, takes_use, takes_done, takes_read, takes_read_mute, takes_write_of, takes_write}
 use Rattle.bounds.specs.Surface.{muted_takes, push_costs, number_takes, flash_bank_takes}
+use Rattle.lookup.specs.declared.Command.{Command}
 
 -- a command's driver may be used
-abbrev pub MayBound : (ℕ → Type 0) → Bound → Type 0
-MayBound D (bound.Run c) = D c.driver
-MayBound D bound.Nothing = Unit {0}
+abbrev pub MayBound : (ℕ → Type 0) → Option Command → Type 0
+MayBound D (Some c) = D c.driver
+MayBound D None = Unit {0}
 
 -- the drivers of a rig may be used: of its faders, of its bank, and of its transport buttons
 pub record MayRig (D : ℕ → Type 0) (r : Rig) : Type 0 where
@@ -55,21 +47,21 @@ module _ (D : ℕ → Type 0) where
   transport_may kind [] h = tt
   transport_may kind (e ∷ l) (one_entry d h) = go (of_kind kind e) (transport_may kind l h)
     where
-      go : (b : Bool) → MayBound D (bound_by (find (of_kind kind) l)) → MayBound D (bound_by (pick b (some e) (find (of_kind kind) l)))
+      go : (b : Bool) → MayBound D (bound_by (find (of_kind kind) l)) → MayBound D (bound_by (pick b (Some e) (find (of_kind kind) l)))
       go true k = d
       go false k = k
 
-  before_may : (a b : Bound) → MayBound D a → MayBound D b → MayBound D (before a b)
-  before_may (bound.Run c) b h k = h
-  before_may bound.Nothing b h k = k
+  before_may : (a b : Option Command) → MayBound D a → MayBound D b → MayBound D (before a b)
+  before_may (Some c) b h k = h
+  before_may None b h k = k
 
-  group_may : (group : ℕ) (f : Found) → MayTo D f → MayTo D (in_group group f)
-  group_may group (found.To d) h = go (eqb d.group group)
+  group_may : (group : ℕ) (f : Option Destination) → MayTo D f → MayTo D (in_group group f)
+  group_may group (Some d) h = go (eqb d.group group)
     where
-      go : (b : Bool) → MayTo D (pick b (found.To d) found.Nothing)
+      go : (b : Bool) → MayTo D (pick b (Some d) None)
       go true = h
       go false = tt
-  group_may group found.Nothing h = tt
+  group_may group None h = tt
 
   peer_may : (r : Rig) → ((n : ℕ) → MayTo D (destination r n)) → (group n : ℕ) → MayTo D (peer r group n)
   unfolding peer
@@ -118,8 +110,8 @@ module _ {D : ℕ → Type 0} (R : Rules D) where
   mute_if_takes false e s d = mute_level_takes (is_hushed (kept_by e) (targets_of s)) e s d
 
   toggle_if_costs : (o : Option Bool) (b : Bool) (e : Destination) → D e.driver → Costs R 0 1 (toggle_if o b e)
-  toggle_if_costs none b e d = stay R
-  toggle_if_costs (some a) b e d = go (beq a b)
+  toggle_if_costs None b e d = stay R
+  toggle_if_costs (Some a) b e d = go (beq a b)
     where
       go : (c : Bool) → Costs R 0 1 (λ t. pick c t (toggle_of e.driver e.mute t).talk)
       go true = stay R
@@ -137,9 +129,9 @@ module _ {D : ℕ → Type 0} (R : Rules D) where
   off_if_takes true e was s d = giving R (set_mute_costs e was d)
   off_if_takes false e was s d = back_if_takes (is_hushed (kept_by e) (targets_of s)) e s d
 
-  off_to_takes : (f : Found) (was : Bool) (s : List Hushed) → MayTo D f → Takes R 0 2 (off_to f was s)
-  off_to_takes (found.To e) was s d = off_if_takes (has_mute e) e was s d
-  off_to_takes found.Nothing was s d = still R
+  off_to_takes : (f : Option Destination) (was : Bool) (s : List Hushed) → MayTo D f → Takes R 0 2 (off_to f was s)
+  off_to_takes (Some e) was s d = off_if_takes (has_mute e) e was s d
+  off_to_takes None was s d = still R
 
   silence_takes : (b : Bool) (e : Destination) (s : List Hushed) → D e.driver → Takes R 0 2 (silence_if b e s)
   silence_takes true e s d = up_to R (giving R (line_of R (takes_write R e _ d))) (omega arith) (omega arith)
@@ -153,14 +145,14 @@ module _ {D : ℕ → Type 0} (R : Rules D) where
   on_if_takes true e silence s d = giving R (set_mute_costs e silence d)
   on_if_takes false e silence s d = on_level_takes silence e s d
 
-  on_to_takes : (f : Found) (silence : Bool) (s : List Hushed) → MayTo D f → Takes R 0 2 (on_to f silence s)
-  on_to_takes (found.To e) silence s d = on_if_takes (has_mute e) e silence s d
-  on_to_takes found.Nothing silence s d = still R
+  on_to_takes : (f : Option Destination) (silence : Bool) (s : List Hushed) → MayTo D f → Takes R 0 2 (on_to f silence s)
+  on_to_takes (Some e) silence s d = on_if_takes (has_mute e) e silence s d
+  on_to_takes None silence s d = still R
 
   module _ (r : Rig) (to : (n : ℕ) → MayTo D (destination r n)) where
-    mute_to_takes : (f : Found) (l : Lamps) (s : List Hushed) → MayTo D f → Takes R 40 18 (mute_to f r l s)
-    mute_to_takes (found.To e) l s d = bind R (mute_if_takes (has_mute e) e s d) (λ k. giving R (push_costs R r to l (targets_of k)))
-    mute_to_takes found.Nothing l s d = still R
+    mute_to_takes : (f : Option Destination) (l : Lamps) (s : List Hushed) → MayTo D f → Takes R 40 18 (mute_to f r l s)
+    mute_to_takes (Some e) l s d = bind R (mute_if_takes (has_mute e) e s d) (λ k. giving R (push_costs R r to l (targets_of k)))
+    mute_to_takes None l s d = still R
 
     mute_takes : (n : ℕ) (l : Lamps) (s : List Hushed) → Takes R 40 18 (mute r n l s)
     unfolding mute
@@ -200,18 +192,18 @@ module _ {D : ℕ → Type 0} (R : Rules D) where
         bind R (note_if_takes (eqb l.soloed 0) group (targets_of s) l)
         (λ n. bind R (solo_on_takes group fader 16 s) (λ k. giving R (push_costs R r to (solo_to fader n) (targets_of k))))
 
-    solo_with_takes : (f : Found) (fader : ℕ) (l : Lamps) (s : List Hushed) → Takes R 40 64 (solo_with f r fader l s)
-    solo_with_takes (found.To e) fader l s = solo_if_takes (eqb l.soloed fader) e.group fader l s
-    solo_with_takes found.Nothing fader l s = still R
+    solo_with_takes : (f : Option Destination) (fader : ℕ) (l : Lamps) (s : List Hushed) → Takes R 40 64 (solo_with f r fader l s)
+    solo_with_takes (Some e) fader l s = solo_if_takes (eqb l.soloed fader) e.group fader l s
+    solo_with_takes None fader l s = still R
 
     solo_takes : (n : ℕ) (l : Lamps) (s : List Hushed) → Takes R 40 64 (solo r n l s)
     unfolding solo
     solo_takes n l s = solo_with_takes (destination r n) n l s
 
   -- ── commands ──
-  bound_costs : (b : Bound) → MayBound D b → Costs R 0 1 (run_bound b)
-  bound_costs (bound.Run c) d = line_of R (command_takes c.driver c.target c.command d)
-  bound_costs bound.Nothing d = stay R
+  bound_costs : (b : Option Command) → MayBound D b → Costs R 0 1 (run_bound b)
+  bound_costs (Some c) d = line_of R (command_takes c.driver c.target c.command d)
+  bound_costs None d = stay R
 
   module _ (r : Rig) (may : MayRig D r) where
     offered_if_takes : (b : Bool) (driver kind : ℕ) → Takes R 0 0 (offered_if b r driver kind)
@@ -251,9 +243,9 @@ module _ {D : ℕ → Type 0} (R : Rules D) where
         (before_may D (transport_of kind r.globals.transports) (transport_of kind r.here.part.transports)
         (transport_may D kind r.globals.transports may.global) (transport_may D kind r.here.part.transports may.own))
       where
-        go : (b : Bound) → MayBound D b → Costs R 0 2 (run_else b r kind)
-        go (bound.Run c) d = more R (bound_costs (bound.Run c) d) (omega arith) (omega arith)
-        go bound.Nothing d = onto_so R {f = default_button r kind} {g = run_bound} (MayBound D) (default_takes kind) (default_may kind) bound_costs
+        go : (b : Option Command) → MayBound D b → Costs R 0 2 (run_else b r kind)
+        go (Some c) d = more R (bound_costs (Some c) d) (omega arith) (omega arith)
+        go None d = onto_so R {f = default_button r kind} {g = run_bound} (MayBound D) (default_takes kind) (default_may kind) bound_costs
 
     rec_loads_takes : Takes R 0 1 (rec_loads r)
     unfolding rec_loads
@@ -280,9 +272,9 @@ module _ {D : ℕ → Type 0} (R : Rules D) where
     unfolding scene_on_device
     on_device_takes names = go (eqb (device r.here) 65535) refl
       where
-        on : (i : Index) → D (device r.here) → Takes R 0 1 (on_list i (device r.here) names)
-        on (index.At i) d = bind R (scenes_takes (device r.here) d) (λ l. done R)
-        on index.Nothing d = still R
+        on : (i : Option ℕ) → D (device r.here) → Takes R 0 1 (on_list i (device r.here) names)
+        on (Some i) d = bind R (scenes_takes (device r.here) d) (λ l. done R)
+        on None d = still R
 
         go : (b : Bool) → eqb (device r.here) 65535 ≡ b → Takes R 0 2 (on_device_if b (device r.here) names)
         go true e = still R
@@ -292,9 +284,9 @@ module _ {D : ℕ → Type 0} (R : Rules D) where
     unfolding start
     start_takes names l = go (scene_at r.here.bank l)
       where
-        go : (p : Place) → Takes R 0 2 (start_if p r.here names l)
-        go (place.At i) = still R
-        go place.Nothing = bind R (on_device_takes names) (λ p. done R)
+        go : (p : Option ℕ) → Takes R 0 2 (start_if p r.here names l)
+        go (Some i) = still R
+        go None = bind R (on_device_takes names) (λ p. done R)
 
     load_on_takes : (driver name i : ℕ) → D driver → Takes R 0 2 (load_on driver name i)
     unfolding load_on

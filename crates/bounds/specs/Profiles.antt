@@ -1,6 +1,6 @@
 -- A profile that is not declined is sound: its drivers are 0 to 15, and it has at most 16 transport buttons in one bank or the globals.
 use Prim.Native.Nat.{ℕ, zero, suc, ◌≤◌, ◌<◌}
-use Rattle.std.specs.Prelude.{◌≡◌, Bool, List, [], ◌∷◌, ◌++◌, eqb, ltb, length}
+use Rattle.std.specs.Prelude.{◌≡◌, Bool, List, [], ◌∷◌, ◌++◌, eqb, ltb, length, None, Option, Some}
 use Rattle.std.proofs.Math.Path.{refl}
 use Rattle.std.proofs.Math.Bool.{true, false}
 use Rattle.std.proofs.Common.{⊎_elim, eq-zero-or-pos, arith}
@@ -8,8 +8,6 @@ use borrow.Author.Tests.{eqb-true, eqb-false, ltb-true, ltb-false}
 use Rattle.base.specs.Choice.{pick}
 use Rattle.base.specs.Range.{count}
 use Rattle.base.specs.RangeLaws.{and_left, and_right}
-use Rattle.base.specs.declared.Place.{Place}
-use Rattle.base.specs.declared.Place.TheVariants as place
 use Rattle.profile.specs.Profile.{records, byte_at, half_at, is_kind, verdict}
 use Rattle.profile.specs.RangeMore.{count-reach}
 use Rattle.profile.specs.Fields.{fader-at, bank_at_lem, transport-at}
@@ -37,21 +35,21 @@ module _ (s : List ℕ) (yes : verdict s ≡ 0) where
   unfolding control_of
   fader_may part n = go (entry s 2 part n) refl
     where
-      go : (p : Place) → entry s 2 part n ≡ p → MayTo IsDriver (found_at s p)
-      go (place.At k) e =
+      go : (p : Option ℕ) → entry s 2 part n ≡ p → MayTo IsDriver (found_at s p)
+      go (Some k) e =
           let w = entry-is s 2 part n k e in
           low_byte k (fader-at s (accepted s yes).fields k w.in_file w.kind_is).driver
-      go place.Nothing e = tt
+      go None e = tt
 
   device_may : (b : ℕ) → eqb (half_of s 6 65535 (entry s 1 b 0)) 65535 ≡ false → IsDriver (half_of s 6 65535 (entry s 1 b 0))
   device_may b q = go (entry s 1 b 0) refl q
     where
-      go : (p : Place) → entry s 1 b 0 ≡ p → eqb (half_of s 6 65535 p) 65535 ≡ false → IsDriver (half_of s 6 65535 p)
-      go (place.At k) e f =
+      go : (p : Option ℕ) → entry s 1 b 0 ≡ p → eqb (half_of s 6 65535 p) 65535 ≡ false → IsDriver (half_of s 6 65535 p)
+      go (Some k) e f =
           let w = entry-is s 1 b 0 k e in
           ⊎_elim (λ l. omega (arith, l)) (λ i. absurd (eqb-false (half_at s k 6) 65535 f i))
           (bank_at_lem s (accepted s yes).fields k w.in_file w.kind_is).driver
-      go place.Nothing e f = absurd (eqb-false 65535 65535 f refl)
+      go None e f = absurd (eqb-false 65535 65535 f refl)
 
   gathered : (part n : ℕ) → n ≤ records s → MayAll IsDriver (gather n (of_part s 5 part) (entry_at s))
   unfolding gather

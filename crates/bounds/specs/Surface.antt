@@ -1,25 +1,18 @@
 -- What the surface's lamps and positions cost: `push_state` 40 messages and 16 calls, a flash's end at most 6 more messages and the row's own, a live
 -- list one call more, the transport lamps one message and one call for each entry.
 use Prim.Native.Nat.{ℕ, zero, suc, ◌+◌, ◌-◌, ◌*◌, ◌≤◌}
-use Rattle.std.specs.Prelude.{Bool, leb, length, Float}
+use Rattle.std.specs.Prelude.{Bool, leb, length, Float, None, Option, Some}
 use Rattle.std.proofs.Math.Bool.{true, false}
 use mathlib.Core.List.{List, [], ◌∷◌}
-use Rattle.std.proofs.Math.Option.{Option, none, some}
 use Rattle.std.proofs.Common.{arith}
 use Rattle.base.specs.Keyed.{find}
 use Rattle.float.specs.Leaf.{due_of, flash_over}
 use Rattle.float.specs.LeafLaws.{due-most}
 use Rattle.protocol.specs.Protocol.{sent_to, transport_note}
-use Rattle.protocol.specs.declared.Found as notes
-use Rattle.protocol.specs.declared.Found.TheVariants as note
 use Rattle.lookup.specs.declared.Destination.{Destination}
 use Rattle.lookup.specs.declared.Command.{Command}
 use Rattle.lookup.specs.declared.Entry.{Entry}
-use Rattle.lookup.specs.declared.Found.{Found}
-use Rattle.lookup.specs.declared.Found.TheVariants as found
 use Rattle.drivers.specs.Talk.{plain_call, playing_of}
-use Rattle.drivers.specs.declared.Level.{Level}
-use Rattle.drivers.specs.declared.Level.TheVariants.{At, Unknown}
 use Rattle.session.specs.Session.{last_move, flashing}
 use Rattle.session.specs.declared.Lamps.{Lamps}
 use Rattle.session.specs.declared.Moves.{Moves}
@@ -37,22 +30,22 @@ end_cost true sent = 41 + (6 - sent)
 end_cost false sent = 0
 
 module _ {D : ℕ → Type 0} (R : Rules D) where
-  level_costs : (ch : ℕ) (x : Level) → Costs R 1 0 (send_level ch x)
-  level_costs ch (At x) = says R (sent_to ch x)
-  level_costs ch Unknown = stay R
+  level_costs : (ch : ℕ) (x : Option Float) → Costs R 1 0 (send_level ch x)
+  level_costs ch (Some x) = says R (sent_to ch x)
+  level_costs ch None = stay R
 
-  position_costs : (b : Bool) (ch : ℕ) (f : Found) → MayTo D f → Costs R 1 1 (position_for b ch f)
-  position_costs true ch (found.To d) h = onto R {f = read d} (takes_read R d h) (level_costs ch)
-  position_costs true ch found.Nothing h = stay R
+  position_costs : (b : Bool) (ch : ℕ) (f : Option Destination) → MayTo D f → Costs R 1 1 (position_for b ch f)
+  position_costs true ch (Some d) h = onto R {f = read d} (takes_read R d h) (level_costs ch)
+  position_costs true ch None h = stay R
   position_costs false ch f h = stay R
 
   muted_if_takes : (b : Bool) (d : Destination) (s : List ℕ) → D d.driver → Takes R 0 1 (muted_if b d s)
   muted_if_takes true d s h = bind R (takes_read_mute R d h) (λ x. done R)
   muted_if_takes false d s h = still R
 
-  pub muted_takes : (f : Found) (s : List ℕ) → MayTo D f → Takes R 0 1 (muted_to f s)
-  muted_takes (found.To d) s h = muted_if_takes (has_mute d) d s h
-  muted_takes found.Nothing s h = still R
+  pub muted_takes : (f : Option Destination) (s : List ℕ) → MayTo D f → Takes R 0 1 (muted_to f s)
+  muted_takes (Some d) s h = muted_if_takes (has_mute d) d s h
+  muted_takes None s h = still R
 
   four_costs : (r : Rig) (l : Lamps) (ch : ℕ) (b : Bool) → Costs R 4 0 (four_lamps r l ch b)
   four_costs r l ch b = after R (says R _) (after R (says R _) (after R (says R _) (says R _)))
@@ -135,12 +128,12 @@ module _ {D : ℕ → Type 0} (R : Rules D) where
   playing_takes driver name h = bind R (takes_use R (plain_call 5 driver name 0) h) (λ x. done R)
 
   meet_takes : (k : Option Player) (c : Command) (known : List Player) (n : ℕ) → D c.driver → Takes R 1 1 (meet_if k c known n)
-  meet_takes (some x) c known n h = up_to R (giving R (says R _)) (omega arith) (omega arith)
-  meet_takes none c known n h = bind R (playing_takes c.driver c.target h) (λ b. giving R (says R _))
+  meet_takes (Some x) c known n h = up_to R (giving R (says R _)) (omega arith) (omega arith)
+  meet_takes None c known n h = bind R (playing_takes c.driver c.target h) (λ b. giving R (says R _))
 
-  lamp_takes : (n : notes.Found) (c : Command) (known : List Player) → D c.driver → Takes R 1 1 (lamp_for n c known)
-  lamp_takes (note.At n) c known h = meet_takes (find (is_player c) known) c known n h
-  lamp_takes note.Nothing c known h = still R
+  lamp_takes : (n : Option ℕ) (c : Command) (known : List Player) → D c.driver → Takes R 1 1 (lamp_for n c known)
+  lamp_takes (Some n) c known h = meet_takes (find (is_player c) known) c known n h
+  lamp_takes None c known h = still R
 
   pub bound_costs : (l : List Entry) (known : List Player) → MayAll D l → Costs R (length l) (length l) (push_bound l known)
   unfolding push_bound

@@ -1,6 +1,5 @@
 -- "Well shaped" (document 01, number 8), said of a session as it is seen over the profile p. Definitions only.
-use Rattle.std.specs.Prelude.{ℕ, ◌≤◌, ◌<◌, ◌≡◌, true, List, eqb, length, get_or}
-use Rattle.std.proofs.Math.Option.{none}
+use Rattle.std.specs.Prelude.{ℕ, ◌≤◌, ◌<◌, ◌≡◌, true, List, eqb, length, get_or, None}
 use Rattle.base.specs.Keyed.{all_of, no_twice}
 use Rattle.profile.specs.Profile.{records, is_kind, bank_count}
 use Rattle.lookup.specs.Lookup.{dest_at}
@@ -29,7 +28,7 @@ WiredTurn p e = Wired p e.dest
 pub record Well (p : List ℕ) (k : Kept) : Type 0 where
   pub bank : k.site.bank < bank_count p
   pub line : WellLine k.desk.line
-  pub lives : (b : ℕ) → WellStrips (strips_or (get_or k.site.lives b none))
+  pub lives : (b : ℕ) → WellStrips (strips_or (get_or k.site.lives b None))
   pub few : length k.desk.turns ≤ 136
   pub wired : Each (WiredTurn p) k.desk.turns
   pub sums : all_of good_turn k.desk.turns ≡ true

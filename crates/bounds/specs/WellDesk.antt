@@ -1,10 +1,9 @@
 -- The line and the encoders' sums stay well shaped: a move takes its channel's place, a turn adds to its destination's sum.
 use Prim.Native.Nat.{ℕ, suc, ◌+◌, ◌≤◌, ◌<◌}
 use Rattle.std.proofs.Math.Path.{◌≡◌, refl}
-use Rattle.std.specs.Prelude.{Bool, ◌&&◌, not, ℤ, ◌+ℤ◌, Float}
+use Rattle.std.specs.Prelude.{Bool, ◌&&◌, not, ℤ, ◌+ℤ◌, Float, None, Option, Some}
 use Rattle.std.proofs.Math.Bool.{true, false}
 use mathlib.Core.List.{List, [], ◌∷◌}
-use Rattle.std.proofs.Math.Option.{Option, none, some}
 use native.Mathlib.Omega.{arith}
 use Rattle.std.proofs.Math.Dec.{leb}
 use Rattle.std.proofs.Math.ListN.{length}
@@ -13,15 +12,11 @@ use Rattle.base.specs.Choice.{pick}
 use Rattle.base.specs.Keyed.{find, change, all_of, no_twice}
 use Rattle.base.specs.KeyedLaws.{change_long}
 use Rattle.base.specs.Pigeon.{left_of_lem, right_of}
-use Rattle.base.specs.declared.Place.{Place}
-use Rattle.base.specs.declared.Place.TheVariants as place
 use Rattle.profile.specs.Profile.{byte_at}
 use Rattle.lookup.specs.Lookup.{entry, precede, found_at, control_of}
 use Rattle.lookup.specs.LookupLaws.{entry-is}
 use Rattle.lookup.specs.View.{view_of}
 use Rattle.lookup.specs.declared.Destination.{Destination}
-use Rattle.lookup.specs.declared.Found.{Found}
-use Rattle.lookup.specs.declared.Found.TheVariants as found
 use Rattle.drivers.specs.Talk.{Talk, next}
 use Rattle.session.specs.Session.{Turn, is_marked, last_move, turn, add_to, first_turn, is_dest, same_turn}
 use Rattle.session.specs.SessionLaws.{WellLine, line_empty, line_place, turn_once}
@@ -44,12 +39,12 @@ pub record WellTurns (p : List ℕ) (l : List Turn) : Type 0 where
 
 -- a list in which one is changed, or that has one more
 module _ {A : Type 0} (f : A → Bool) (g : A → A) (y : A) where
-  change_found : (l : List A) (z : A) → find f l ≡ some z → length (change f g y l) ≤ length l
+  change_found : (l : List A) (z : A) → find f l ≡ Some z → length (change f g y l) ≤ length l
   unfolding change find
   change_found [] z e = absurd (let q : ◌≡◌ {A = ℕ} 0 1 = cc in omega arith)
   change_found (x ∷ l) z e = go (f x) e (change_found l z)
     where
-      go : (b : Bool) → pick b (some x) (find f l) ≡ some z → (find f l ≡ some z → length (change f g y l) ≤ length l) →
+      go : (b : Bool) → pick b (Some x) (find f l) ≡ Some z → (find f l ≡ Some z → length (change f g y l) ≤ length l) →
           length (pick b (g x ∷ l) (x ∷ change f g y l)) ≤ suc (length l)
       go true q k = omega arith
       go false q k = omega (arith, k q)
@@ -65,15 +60,15 @@ module _ {A : Type 0} (f : A → Bool) (g : A → A) (y : A) where
 
   -- the one that is found passes after its change; where none is, the new one passes
   abbrev Passes : (A → Bool) → Option A → Type 0
-  Passes t none = t y ≡ true
-  Passes t (some z) = t (g z) ≡ true
+  Passes t None = t y ≡ true
+  Passes t (Some z) = t (g z) ≡ true
 
   change-all : (t : A → Bool) (l : List A) → all_of t l ≡ true → Passes t (find f l) → all_of t (change f g y l) ≡ true
   unfolding change find all_of
   change-all t [] h k = rw k
   change-all t (x ∷ l) h k = go (f x) k (left_of_lem (t x) (all_of t l) h) (right_of (t x) (all_of t l) h) (change-all t l (right_of (t x) (all_of t l) h))
     where
-      go : (b : Bool) → Passes t (pick b (some x) (find f l)) → t x ≡ true → all_of t l ≡ true → (Passes t (find f l) → all_of t (change f g y l) ≡ true) →
+      go : (b : Bool) → Passes t (pick b (Some x) (find f l)) → t x ≡ true → all_of t l ≡ true → (Passes t (find f l) → all_of t (change f g y l) ≡ true) →
           all_of t (pick b (g x ∷ l) (x ∷ change f g y l)) ≡ true
       go true q a r i = rw (q, r)
       go false q a r i = rw (a, i q)
@@ -82,8 +77,8 @@ module _ {A : Type 0} (f : A → Bool) (g : A → A) (y : A) where
 module _ (p : List ℕ) (e : Destination) (n : ℤ) (l : List Turn) (h : WellTurns p l) where
   turn_few : (o : Option Turn) → find (is_dest e) l ≡ o → declined_by o n l ≡ 0 → length (turn e n l) ≤ 136
   unfolding turn
-  turn_few (some z) q r = omega (arith, h.few, change_found (is_dest e) (add_to n) (first_turn e n) l z q)
-  turn_few none q r = go (leb 136 (length l)) refl r
+  turn_few (Some z) q r = omega (arith, h.few, change_found (is_dest e) (add_to n) (first_turn e n) l z q)
+  turn_few None q r = go (leb 136 (length l)) refl r
     where
       go : (b : Bool) → leb 136 (length l) ≡ b → pick {A = ℕ} b 13 0 ≡ 0 → length (change (is_dest e) (add_to n) (first_turn e n) l) ≤ 136
       go true i j = absurd (omega arith)
@@ -94,8 +89,8 @@ module _ (p : List ℕ) (e : Destination) (n : ℤ) (l : List Turn) (h : WellTur
   in_range_lem false q = absurd (omega arith)
 
   sum_passes : (o : Option Turn) → in_range n ≡ true → declined_by o n l ≡ 0 → Passes (is_dest e) (add_to n) (first_turn e n) good_turn o
-  sum_passes (some z) low r = in_range_lem (in_range (z.sum +ℤ n)) r
-  sum_passes none low r = low
+  sum_passes (Some z) low r = in_range_lem (in_range (z.sum +ℤ n)) r
+  sum_passes None low r = low
 
   turn_well : Wired p e → in_range n ≡ true → declined_by (find (is_dest e) l) n l ≡ 0 → WellTurns p (turn e n l)
   unfolding turn
@@ -109,27 +104,27 @@ module _ (p : List ℕ) (e : Destination) (n : ℤ) (l : List Turn) (h : WellTur
 
 -- ── what an encoder is wired to ──
 
-abbrev WiredTo : List ℕ → Found → Type 0
-WiredTo p (found.To d) = Wired p d
-WiredTo p found.Nothing = Unit {0}
+abbrev WiredTo : List ℕ → Option Destination → Type 0
+WiredTo p (Some d) = Wired p d
+WiredTo p None = Unit {0}
 
 control_wired : (p : List ℕ) (part n : ℕ) → WiredTo p (control_of p 3 part n)
 unfolding control_of
 control_wired p part n = go (entry p 3 part n) refl
   where
-    go : (f : Place) → entry p 3 part n ≡ f → WiredTo p (found_at p f)
-    go (place.At k) e =
+    go : (f : Option ℕ) → entry p 3 part n ≡ f → WiredTo p (found_at p f)
+    go (Some k) e =
         let w = entry-is p 3 part n k e in
         record { at = k; wires = record { in_file = w.in_file; encoder = eq-eqb (byte_at p k 0) 3 w.kind_is; to = refl } }
-    go place.Nothing e = tt
+    go None e = tt
 
-precede_wired : (p : List ℕ) (f g : Found) → WiredTo p f → WiredTo p g → WiredTo p (precede f g)
-precede_wired p (found.To d) g h k = h
-precede_wired p found.Nothing g h k = k
+precede_wired : (p : List ℕ) (f g : Option Destination) → WiredTo p f → WiredTo p g → WiredTo p (precede f g)
+precede_wired p (Some d) g h k = h
+precede_wired p None g h k = k
 
-turn_to_well : (p : List ℕ) (f : Found) (n : ℤ) (l : List Turn) → WiredTo p f → in_range n ≡ true → refusal_to f n l ≡ 0 → WellTurns p l → WellTurns p (turn_to f n l)
-turn_to_well p (found.To e) n l w low r h = turn_well p e n l h w low r
-turn_to_well p found.Nothing n l w low r h = h
+turn_to_well : (p : List ℕ) (f : Option Destination) (n : ℤ) (l : List Turn) → WiredTo p f → in_range n ≡ true → refusal_to f n l ≡ 0 → WellTurns p l → WellTurns p (turn_to f n l)
+turn_to_well p (Some e) n l w low r h = turn_well p e n l h w low r
+turn_to_well p None n l w low r h = h
 
 -- ── the line, and both ──
 
@@ -156,9 +151,9 @@ module _ (p : List ℕ) where
     fader_if_well true e t = moved_well (is_held (read e t).value (last_move k d.moves) x)
     fader_if_well false e t = take_well
 
-    fader_to_well : (f : Found) (t : Talk) → WellDesk p (fader_to f k ch x d t).value
-    fader_to_well (found.To e) t = fader_if_well (e.takeover && not (is_marked k d.marks)) e t
-    fader_to_well found.Nothing t = h
+    fader_to_well : (f : Option Destination) (t : Talk) → WellDesk p (fader_to f k ch x d t).value
+    fader_to_well (Some e) t = fader_if_well (e.takeover && not (is_marked k d.marks)) e t
+    fader_to_well None t = h
 
   pub fader_well : (r : Rig) (ch : ℕ) (x : Float) (d : Desk) (t : Talk) → WellDesk p d → ch < 16 → WellDesk p (fader r ch x d t).value
   unfolding fader

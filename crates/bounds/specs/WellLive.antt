@@ -1,11 +1,10 @@
 -- Live lists stay well shaped: a list that is handed over has its numbers strictly rising, so that none stands twice.
 use Prim.Native.Nat.{ℕ, zero, suc, ◌+◌, ◌*◌, ◌≤◌, ◌<◌}
-use Rattle.std.specs.Prelude.{◌≡◌, Bool, ◌&&◌, ◌||◌, not, List, [], ◌∷◌, eqb, leb, ltb, length, get_or, set}
+use Rattle.std.specs.Prelude.{◌≡◌, Bool, ◌&&◌, ◌||◌, not, List, [], ◌∷◌, eqb, leb, ltb, length, get_or, set, None, Option, Some}
 use Rattle.std.proofs.Math.Path.{refl}
 use Rattle.std.proofs.Common.{ap, arith, lt-ltb, ltb-true, ne_eqb}
 use Rattle.std.proofs.Math.Bool.{true, false}
 use Rattle.std.proofs.lemmas.Bool.{false≢true}
-use Rattle.std.proofs.Math.Option.{Option, none, some}
 use Rattle.base.specs.Choice.{pick}
 use Rattle.base.specs.Range.{all}
 use Rattle.base.specs.RangeLaws.{and_left, and_right, all_none}
@@ -183,9 +182,9 @@ module _ (r : Rig) (own : eqb r.here.part.device 65535 ≡ false → IsDriver r.
 
 -- every bank's list
 abbrev pub WellLives : Lives → Type 0
-WellLives lives = (b : ℕ) → WellStrips (strips_or (get_or lives b none))
+WellLives lives = (b : ℕ) → WellStrips (strips_or (get_or lives b None))
 
-pub set_well : (lives : Lives) (bank : ℕ) (l : List Strip) → WellLives lives → WellStrips l → WellLives (set lives bank (some l))
+pub set_well : (lives : Lives) (bank : ℕ) (l : List Strip) → WellLives lives → WellStrips l → WellLives (set lives bank (Some l))
 set_well [] bank l h k b = h b
 set_well (x ∷ xs) zero l h k zero = k
 set_well (x ∷ xs) zero l h k (suc b) = h (suc b)

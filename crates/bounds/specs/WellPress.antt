@@ -1,16 +1,12 @@
 -- A press leaves a bank that the profile has, and the flash well shaped.
 use Prim.Native.Nat.{ℕ, zero, suc, ◌+◌, ◌-◌, ◌<◌}
-use Rattle.std.specs.Prelude.{◌≡◌, Bool, ◌||◌, List, length, get_or, Float}
+use Rattle.std.specs.Prelude.{◌≡◌, Bool, ◌||◌, List, length, get_or, Float, None, Option, Some}
 use Rattle.std.proofs.Math.Path.{refl}
 use Rattle.std.proofs.Math.Bool.{true, false}
 use Rattle.std.proofs.Math.Dec.{eqb, leb}
 use borrow.Author.Tests.{leb-false}
 use Rattle.base.specs.Choice.{pick}
-use Rattle.base.specs.declared.Place.{Place}
-use Rattle.base.specs.declared.Place.TheVariants as place
 use Rattle.protocol.specs.Protocol.{kind_of, channel_of}
-use Rattle.lookup.specs.declared.Found.{Found}
-use Rattle.lookup.specs.declared.Found.TheVariants as found
 use Rattle.drivers.specs.Talk.{Talk, Act, next}
 use Rattle.session.specs.Session.{Hushed, targets_of, solo_to, none_noted, note_muted, loaded_by, scene_to, scene_unknown, scene_at}
 use Rattle.session.specs.declared.Lamps.{Lamps}
@@ -21,6 +17,7 @@ use Rattle.definition.specs.Scenes.{Started, placed, loaded_if, load_at_if, load
 use Rattle.definition.specs.Banks.{Selected, select_if, select_bank, next_bank, step_if, step_bank}
 use Rattle.definition.specs.Buttons.{Press, Pressed, bank_of, page, walk, command, rec_as, rec, select_as, mute_as, solo_as, or_first, press_of, button, rec_loads}
 use Rattle.bounds.specs.WellFlash.{Shaped, number_gives, bank_gives}
+use Rattle.lookup.specs.declared.Destination.{Destination}
 
 -- ── solo and scenes ──
 
@@ -39,9 +36,9 @@ module _ (r : Rig) where
   solo_if-shaped true group fader l s t h = h
   solo_if-shaped false group fader l s t h = note_if-shaped (eqb l.soloed 0) group (targets_of s) l t h
 
-  solo_with-shaped : (f : Found) (fader : ℕ) (l : Lamps) (s : List Hushed) (t : Talk) → Shaped l → Shaped (solo_with f r fader l s t).value.lamps
-  solo_with-shaped (found.To d) fader l s t h = solo_if-shaped (eqb l.soloed fader) d.group fader l s t h
-  solo_with-shaped found.Nothing fader l s t h = h
+  solo_with-shaped : (f : Option Destination) (fader : ℕ) (l : Lamps) (s : List Hushed) (t : Talk) → Shaped l → Shaped (solo_with f r fader l s t).value.lamps
+  solo_with-shaped (Some d) fader l s t h = solo_if-shaped (eqb l.soloed fader) d.group fader l s t h
+  solo_with-shaped None fader l s t h = h
 
   solo-shaped : (n : ℕ) (l : Lamps) (s : List Hushed) (t : Talk) → Shaped l → Shaped (solo r n l s t).value.lamps
   unfolding solo
@@ -65,15 +62,15 @@ module _ (r : Rig) where
       let u = scene_names r.here t in
       load_at_shaped (eqb (device r.here) 65535 || leb (length u.value) i) s i l u.value u.talk h
 
-  placed-shaped : (p : Place) (bank : ℕ) (l : Lamps) → Shaped l → Shaped (placed bank p l)
+  placed-shaped : (p : Option ℕ) (bank : ℕ) (l : Lamps) → Shaped l → Shaped (placed bank p l)
   unfolding scene_to scene_unknown
-  placed-shaped (place.At i) bank l h = h
-  placed-shaped place.Nothing bank l h = h
+  placed-shaped (Some i) bank l h = h
+  placed-shaped None bank l h = h
 
-  start_if-shaped : (p : Place) (names : List ℕ) (l : Lamps) (t : Talk) → Shaped l → Shaped (start_if p r.here names l t).value.lamps
+  start_if-shaped : (p : Option ℕ) (names : List ℕ) (l : Lamps) (t : Talk) → Shaped l → Shaped (start_if p r.here names l t).value.lamps
   unfolding next
-  start_if-shaped (place.At i) names l t h = h
-  start_if-shaped place.Nothing names l t h = placed-shaped (scene_on_device r.here names t).value r.here.bank l h
+  start_if-shaped (Some i) names l t h = h
+  start_if-shaped None names l t h = placed-shaped (scene_on_device r.here names t).value r.here.bank l h
 
   start-shaped : (names : List ℕ) (l : Lamps) (t : Talk) → Shaped l → Shaped (start r.here names l t).value.lamps
   unfolding start

@@ -1,9 +1,8 @@
 -- What number 8 lets pass is well shaped as it is seen, and what is true of every refusal and every event is true of one that is offered. Of one that is done: proofs/Whole.
-use Rattle.std.specs.Prelude.{ℕ, zero, suc, ◌≤◌, ◌≡◌, Bool, ◌||◌, not, List, [], ◌∷◌, map, eqb, leb, ℤ, length, get_or, take}
+use Rattle.std.specs.Prelude.{ℕ, zero, suc, ◌≤◌, ◌≡◌, Bool, ◌||◌, not, List, [], ◌∷◌, map, eqb, leb, ℤ, length, get_or, take, None, Option, Some}
 use Rattle.std.proofs.Math.Path.{refl}
 use Rattle.std.proofs.Common.{arith, length-take, leb-true, ltb-true}
 use Rattle.std.proofs.Math.Bool.{true, false}
-use Rattle.std.proofs.Math.Option.{none}
 use Rattle.std.proofs.Math.Dec.{ltb}
 use Rattle.base.specs.Choice.{pick}
 use Rattle.base.specs.Range.{every}
@@ -18,8 +17,6 @@ use Rattle.session.specs.declared.Session.{Session}
 use Rattle.session.specs.declared.Line.{Line}
 use Rattle.session.specs.declared.Strips.{Strips}
 use Rattle.event.specs.Event.{read_of}
-use Rattle.event.specs.declared.Read.{Read}
-use Rattle.event.specs.declared.Read.TheVariants.{Known, Unknown}
 use Rattle.event.specs.declared.Timed.{Timed}
 use Rattle.definition.specs.Shape.{shaped_line, shaped_strips, shaped_turns, shaped_silenced, well_shaped}
 use Rattle.definition.specs.Step.{Ended, seen, refused, Stepped, step}
@@ -57,7 +54,7 @@ strips_well s e = go s.known e
         }
     go false h = no_strips_lem
 
-pub lives_well : (l : List Strips) → all_of shaped_strips l ≡ true → (b : ℕ) → WellStrips (strips_or (get_or (map seen_strips l) b none))
+pub lives_well : (l : List Strips) → all_of shaped_strips l ≡ true → (b : ℕ) → WellStrips (strips_or (get_or (map seen_strips l) b None))
 unfolding all_of
 lives_well [] e b = no_strips_lem
 lives_well (s ∷ l) e zero = strips_well s (left_of_lem (shaped_strips s) (all_of shaped_strips l) e)
@@ -117,6 +114,6 @@ module _ (p : List ℕ) (s : Session) (record_of answers : List ℕ) (messages c
       of true x y h k = h
       of false x y h k = k
 
-      read_at : (r : Read) → Q (offered r p (seen p s) answers).ended
-      read_at (Known e) = runs e
-      read_at Unknown = refuses 10
+      read_at : (r : Option Timed) → Q (offered r p (seen p s) answers).ended
+      read_at (Some e) = runs e
+      read_at None = refuses 10

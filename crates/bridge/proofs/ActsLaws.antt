@@ -1,9 +1,9 @@
 -- The events that ask or send, from what their calls promise. Assumes nothing.
+use Rattle.std.proofs.Common.{None, Option, Some}
 use Prim.Native.Nat.{ℕ, ◌+◌, ◌*◌, ◌≤◌}
 use mathlib.Core.Path.{◌≡◌, refl, sym, ap, ◌∙◌}
 use mathlib.Core.Bool.{Bool, true, false}
 use mathlib.Core.List.{List, []}
-use mathlib.Core.Option.{Option, none}
 use native.Mathlib.Omega.{arith}
 use lib.ListN.{length, take, get_or}
 use lib.Ieee.{Float}
@@ -15,7 +15,6 @@ use Rattle.lookup.specs.Lookup.{merged, transports_of}
 use Rattle.lookup.specs.View.{View, view_of}
 use Rattle.drivers.specs.Talk.{Talk, Got, Act, got, next}
 use Rattle.drivers.specs.declared.Io.{Io}
-use Rattle.drivers.specs.declared.Level.{Level}
 use Rattle.session.specs.Session.{Hushed, hushed_up_to, targets_of, seen_strips, strips_or, last_move}
 use Rattle.session.specs.SessionLaws.{targets_seen}
 use Rattle.session.specs.declared.Strip.{Strip}
@@ -41,7 +40,6 @@ use Rattle.bridge.specs.Presses.{bank_after, added_of, press_with, Presses}
 use Rattle.bridge.specs.Which.{press_in, press_if, runs, bank_by, adds_by, is_tick}
 use Rattle.bridge.specs.Acts.{Given, Leaves, pressing, Runs, RunsStill, Pushes, Ticks, RunsAny, tick_behind, behind}
 use Rattle.bridge.specs.declared.buttons.Pressed as buttons
-use Rattle.bridge.specs.declared.which.Press.TheVariants as press
 
 -- ── what is left ──
 
@@ -98,7 +96,7 @@ module _ (note : ℕ) (a : ℕ → Rig) (banks : ℕ) (m : Moves) (now : Float) 
       button note (press_with r a banks m now l s) t ≡ button note (press_with r₁ a banks m now l₁ s₁) t
   same-press r r₁ l l₁ s s₁ e f g = rw (e, f, g)
 
-module _ (p : List ℕ) (here there : Current) (l : Lamps) (s : List Hushed) (home : Level) (now : Float) (t : Talk) where
+module _ (p : List ℕ) (here there : Current) (l : Lamps) (s : List Hushed) (home : Option Float) (now : Float) (t : Talk) where
   pub presses : (note : ℕ) (x : buttons.Pressed) (io : Io) (s₁ : List Hushed) (u : Talk) → Presses (button note) p here there l s home now t x s₁ u →
       Runs (pressing note) p here there l s home now t (pressed_as io here x) s₁ u
   unfolding left_of next
@@ -117,7 +115,7 @@ module _ (p : List ℕ) (here there : Current) (l : Lamps) (s : List Hushed) (ho
       ∙ ap (λ z. on_button z (view_of p) k now b.note t) (sym (ap (λ z. runs (input.Midi z)) e) ∙ q))
 
 -- the press that the message is
-press_of_lem : (m : Event) (b : Button) → m ≡ event.Button b → runs (input.Midi m) ≡ true → press_in (input.Midi m) ≡ press.Of b
+press_of_lem : (m : Event) (b : Button) → m ≡ event.Button b → runs (input.Midi m) ≡ true → press_in (input.Midi m) ≡ Some b
 press_of_lem m b e q = ap (λ z. press_in (input.Midi z)) e ∙ ap (λ z. press_if z b) (sym (ap (λ z. runs (input.Midi z)) e) ∙ q)
 
 -- the bank that is current after it, and room for what it adds
@@ -164,7 +162,7 @@ module _ (p : List ℕ) (here : Current) (l : Lamps) (ts : List ℕ) (t : Talk) 
       ap (λ z. got z u) (as_it_was k here s now io l n g.bank g.silenced ∙ ap (with_lamps k) (sym g.lamps))
       ∙ ap (got (same k)) (f ∙ ap (λ r. push_transport r t) (sym g.rig))
 
-  module _ (home : Level) (now : Float) where
+  module _ (home : Option Float) (now : Float) where
     -- x is the lamps' state after the bank's number
     pub flashes : (io : Io) (n : ℕ) (x : Lamps) (u : Talk) → ShowsBank (rig_in p here) l ts home now t (got x u) →
         RunsStill (act input.FlashBank) p here l ts home now t (still_as io here x n) u
@@ -197,7 +195,7 @@ ticked k here s false now io r l n e f w = rw (← e, ← f, w refl)
 again_here : (p : List ℕ) (here there : Current) → there.bank ≡ here.bank → rig_in p there ≡ with_strips (strips_or (seen_strips there.strips)) (rig_in p here)
 again_here p here there e = rw e
 
-module _ (p : List ℕ) (here : Current) (l : Lamps) (ts : List ℕ) (home : Level) (due : Bool) (now : Float) (t : Talk) where
+module _ (p : List ℕ) (here : Current) (l : Lamps) (ts : List ℕ) (home : Option Float) (due : Bool) (now : Float) (t : Talk) where
   -- u is the line after the list, w and x what the flash leaves
   pub ticks : (io : Io) (n : ℕ) (r : again.Refreshed) (x : Lamps) (u w : Talk) →
       got (seen_again r) u ≡ refresh_due due (seen_strips here.strips) (rig_in p here) l ts t → StillHere here r →
@@ -208,7 +206,7 @@ module _ (p : List ℕ) (here : Current) (l : Lamps) (ts : List ℕ) (home : Lev
       ∙ ap (λ z. next z (λ y. got (after_tick due k now (seen_again r) y))) (f k.desk.moves home_again ∙ played _ _ _ _ _ _ rig_again g.lamps targets)
       ∙ ap (λ z. next z (λ y. flash_tick due (view_of p) k now y)) (a ∙ listed _ _ _ _ _ _ _ _ g.strips g.rig g.lamps targets)
       ∙ ap
-      (λ z. next (refresh_due z (get_or k.site.lives k.site.bank none) (rig_now (view_of p) k) k.lamps (targets_of k.silenced) t)
+      (λ z. next (refresh_due z (get_or k.site.lives k.site.bank None) (rig_now (view_of p) k) k.lamps (targets_of k.silenced) t)
       (λ y. flash_tick z (view_of p) k now y)) (sym d)
     where
       targets : targets_of k.silenced ≡ ts
@@ -235,7 +233,7 @@ module _ (p : List ℕ) (here : Current) (l : Lamps) (ts : List ℕ) (home : Lev
 
 -- ── any of them ──
 
-module _ (p : List ℕ) (here there : Current) (l : Lamps) (home : Level) (due : Bool) (now : Float) (t : Talk) (what : Input) where
+module _ (p : List ℕ) (here there : Current) (l : Lamps) (home : Option Float) (due : Bool) (now : Float) (t : Talk) (what : Input) where
   pub runs_midi : (m : Event) (s s₁ : List Hushed) (x : declared.Left) (u : Talk) → what ≡ input.Midi m → Runs (on_midi m) p here there l s home now t x s₁ u →
       RunsAny what p here there l s home due now t x s₁ u
   unfolding left_of behind
@@ -266,7 +264,7 @@ module _ (p : List ℕ) (here there : Current) (l : Lamps) (home : Level) (due :
     unfolding behind left_of
     runs-tick e f k g d = rw (e, q) (f k (hushed_up_to n targets levels) held (stays k _ (b ∙ ap (λ z. bank_by p here.bank (press_in z)) e) g) d)
 
-    runs-still : (f : View → Kept → Float → Act Left) → is_tick what ≡ false → press_in what ≡ press.None →
+    runs-still : (f : View → Kept → Float → Act Left) → is_tick what ≡ false → press_in what ≡ None →
         ((v : View) (k : Kept) (w : Float) (y : Talk) → behind what v k w y ≡ f v k w y) → RunsStill f p here l (take n targets) home now t x u →
         RunsAny what p here there l (hushed_up_to n targets levels) home due now t x (hushed_up_to x.hushed targets levels) u
     unfolding left_of

@@ -1,4 +1,5 @@
 -- What a pressed button leaves, from what its calls promise, whatever the last moves and the silenced levels are. Assumes nothing.
+use Rattle.std.proofs.Common.{None, Option, Some}
 use Prim.Native.Nat.{ℕ, zero, suc, ◌+◌, ◌≤◌, ◌<◌}
 use mathlib.Core.Path.{◌≡◌, refl, sym, ap, subst, ◌∙◌}
 use mathlib.Core.Bool.{Bool, true, false, not}
@@ -12,12 +13,9 @@ use Rattle.base.specs.Choice.{pick}
 use Rattle.base.specs.Keyed.{no_twice}
 use Rattle.profile.specs.Profile.{bank_count}
 use Rattle.lookup.specs.Lookup.{select_of}
-use Rattle.lookup.specs.declared.Found.{Found}
-use Rattle.lookup.specs.declared.Found.TheVariants as found
 use Rattle.drivers.specs.Talk.{Talk, got, next}
 use Rattle.drivers.specs.Shown.{shown}
 use Rattle.drivers.specs.declared.Io.{Io}
-use Rattle.drivers.specs.declared.Level.{Level}
 use Rattle.session.specs.Session.{Hushed, hushed_up_to, targets_of, has_room}
 use Rattle.session.specs.SessionLaws.{same_hushed, targets_seen}
 use Rattle.session.specs.declared.Lamps.{Lamps}
@@ -37,6 +35,7 @@ use Rattle.banks.specs.Steps.{seen_selected, selecting, Selects, Steps}
 use Rattle.banks.specs.declared.Selected.{Selected}
 use Rattle.bridge.specs.Presses.{selected_by, PressesHere, PressesThere, Hushes, adds_at}
 use Rattle.bridge.specs.declared.buttons.Pressed.{Pressed}
+use Rattle.lookup.specs.declared.Destination.{Destination}
 
 -- ── what is left, as the code has it ──
 
@@ -70,7 +69,7 @@ next_low true banks bank h = go (ltb (bank + 1) banks) refl
 
 -- ── presses that leave the silenced levels alone: the line is seen by the answers, the calls and the messages after it ──
 
-module _ (p : List ℕ) (here : Current) (l : Lamps) (n : ℕ) (ts : List ℕ) (home : Level) (now : Float) (t : Talk) (answers calls messages : List ℕ)
+module _ (p : List ℕ) (here : Current) (l : Lamps) (n : ℕ) (ts : List ℕ) (home : Option Float) (now : Float) (t : Talk) (answers calls messages : List ℕ)
     (x : Pressed) where
   abbrev seen : Io → Talk
   seen io = shown answers io calls messages
@@ -169,19 +168,19 @@ module _ (r : Rig) (fader : ℕ) (l : Lamps) (by : Bool) (s : List Hushed) (few 
       once : no_twice same_hushed s ≡ true
       once = sym (once_keys (λ x. x.target) s) ∙ o
 
-      go : (f : Found) → length s + length (adding f ts []) ≤ 256 → room_at f ts ≡ true
-      go found.Nothing h = refl
-      go (found.To d) h = at (has_mute d) refl
+      go : (f : Option Destination) → length s + length (adding f ts []) ≤ 256 → room_at f ts ≡ true
+      go None h = refl
+      go (Some d) h = at (has_mute d) refl
         where
           adds : List ℕ
-          adds = adding (found.To d) ts []
+          adds = adding (Some d) ts []
 
           at : (c : Bool) → has_mute d ≡ c → pick c true (has_room (kept_by d) ts) ≡ true
           at true e = refl
           at false e =
               let a : length (ts ++ adds) ≡ length ts + length adds = length-append ts adds in
               let same : length ts ≡ length s = length-map s (λ x. x.target) in
-              room_within (ts ++ adds) s (kept_by d) (held s adds once) (adding_covers ts [] (found.To d) e) (omega arith)
+              room_within (ts ++ adds) s (kept_by d) (held s adds once) (adding_covers ts [] (Some d) e) (omega arith)
 
 -- the targets as the array has them
 pub room_for_mute : (r : Rig) (fader : ℕ) (l : Lamps) (by : Bool) (n : ℕ) (ts : List ℕ) (ls : List Float) → n ≤ length ls → by ≡ false →

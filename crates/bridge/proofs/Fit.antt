@@ -1,9 +1,9 @@
 -- What number 8 lets pass is what the handlers ask for, and what an event leaves passes it again. Assumes nothing.
+use Rattle.std.proofs.Common.{None}
 use Prim.Native.Nat.{ℕ, suc, ◌+◌, ◌≤◌, ◌<◌}
 use mathlib.Core.Path.{◌≡◌, refl}
 use mathlib.Core.Bool.{Bool, true, false, ◌||◌, not, true≢false}
 use mathlib.Core.List.{List, [], ◌∷◌, map}
-use mathlib.Core.Option.{none}
 use native.Mathlib.Omega.{arith}
 use lib.Dec.{eqb, leb}
 use lib.ListN.{get_or, take}
@@ -141,7 +141,7 @@ strips_again s h w = at s.known h w
     at true q v = rw (q, v.good, v.once)
     at false q v = refl
 
-lives_again : (l : List Strips) → all_of few_strips l ≡ true → ((b : ℕ) → WellStrips (strips_or (get_or (map seen_strips l) b none))) → all_of shaped_strips l ≡ true
+lives_again : (l : List Strips) → all_of few_strips l ≡ true → ((b : ℕ) → WellStrips (strips_or (get_or (map seen_strips l) b None))) → all_of shaped_strips l ≡ true
 unfolding all_of
 lives_again [] h w = refl
 lives_again (x ∷ l) h w =

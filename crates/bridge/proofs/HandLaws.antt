@@ -1,10 +1,10 @@
 -- The current bank is the definition's, an encoder's turn and a fader's move end as the definition's do, and what they leave passes number 8 again.
 -- Assumes nothing.
+use Rattle.std.proofs.Common.{None, Option, Some}
 use Prim.Native.Nat.{ℕ, zero, suc, ◌+◌, ◌*◌, ◌-◌, ◌≤◌, ◌<◌}
 use mathlib.Core.Path.{◌≡◌, refl, sym, ap, ◌∙◌, subst}
 use mathlib.Core.Bool.{◌&&◌, Bool, true, false, ◌||◌, not, cond, true≢false, and-false}
 use mathlib.Core.List.{List, [], ◌∷◌, map}
-use mathlib.Core.Option.{Option, none, some}
 use native.Mathlib.Omega.{arith}
 use lib.Dec.{eqb, leb, ltb}
 use lib.IntN.{ℤ, pos, negsuc, nat_abs, sub_ℕ, ◌+ℤ◌}
@@ -22,20 +22,15 @@ use Rattle.base.specs.KeyedLaws as keyed
 use Rattle.base.specs.BesideLaws as side
 use Rattle.base.specs.Pigeon.{left_of_lem, right_of}
 use Rattle.base.specs.Tail.{at_front}
-use Rattle.base.specs.declared.Place.{Place}
-use Rattle.base.specs.declared.Place.TheVariants as place
 use Rattle.profile.specs.Profile.{records, verdict}
 use Rattle.profile.specs.Accepted.{few_records}
 use Rattle.lookup.specs.Lookup.{dest_at, found_at, encoder_of, precede, encoder_place}
 use Rattle.lookup.specs.LookupLaws.{encoder_place_found, encoder-place-is}
 use Rattle.lookup.specs.View.{view_of}
-use Rattle.lookup.specs.declared.Found.{Found}
-use Rattle.lookup.specs.declared.Found.TheVariants as found
 use Rattle.drivers.specs.Talk.{Talk, Got, got, next, start}
 use Rattle.drivers.specs.Bytes.{joined, encode}
 use Rattle.drivers.specs.Shown.{shown}
 use Rattle.drivers.specs.declared.Io.{Io}
-use Rattle.drivers.specs.declared.Level.{Level}
 use Rattle.session.specs.Session.{Turn, turn_at, seen_turns, is_encoder, wires_to, is_dest, turn, RoomToTurn, is_marked, last_move, seen_line, seen_strips, good_strip, same_number, strips_at}
 use Rattle.session.specs.declared.Session.{Session}
 use Rattle.session.specs.declared.Turns.{Turns}
@@ -61,6 +56,7 @@ use Rattle.bounds.proofs.WellStep.{step_well}
 use Rattle.bridge.specs.Bridge.{IsCurrent, moved_at, turned_at, Moves, Turns as TurnsAs}
 use Rattle.bridge.proofs.StepLaws.{did, room_for_lem, undone_delivers, done_delivers}
 use Rattle.bridge.proofs.Fit.{places, shaped-again}
+use Rattle.lookup.specs.declared.Destination.{Destination}
 
 -- ── the current bank ──
 
@@ -73,7 +69,7 @@ rig_is p s b c i = rw (i.bank, i.strips)
 abbrev past : Strips
 past = record { known = false; list = []; count = 0 }
 
-list_seen : (l : List Strips) (b : ℕ) → seen_strips (get_or l b past) ≡ get_or (map seen_strips l) b none
+list_seen : (l : List Strips) (b : ℕ) → seen_strips (get_or l b past) ≡ get_or (map seen_strips l) b None
 unfolding seen_strips
 list_seen [] b = refl
 list_seen (x ∷ l) zero = refl
@@ -92,7 +88,7 @@ list_few (x ∷ l) zero e k = few_at x.known k (left_of_lem (shaped_strips x) (a
 list_few (x ∷ l) (suc b) e k = list_few l b (right_of (shaped_strips x) (all_of shaped_strips l) e) k
 
 module _ (l : Live) (b : ℕ) (s : Strips) (at : s ≡ strips_at b l) where
-  at_seen : seen_strips s ≡ get_or (map seen_strips l.banks) b none
+  at_seen : seen_strips s ≡ get_or (map seen_strips l.banks) b None
   unfolding strips_at
   at_seen = rw at (list_seen l.banks b)
 
@@ -139,12 +135,12 @@ range_small (negsuc n) e = let h : n ≤ 999999 = leb-true n 999999 (and_left (l
 range_fits : (x y : ℤ) → in_range x ≡ true → in_range y ≡ true → SFits w32 (x +ℤ y)
 range_fits x y h k = small_fits (x +ℤ y) (sum_small x y 1000000 1000000 (range_small x h) (range_small y k))
 
-unfound : {A : Type 0} (f : A → Bool) (l : List A) → any_of f l ≡ false → find f l ≡ none
+unfound : {A : Type 0} (f : A → Bool) (l : List A) → any_of f l ≡ false → find f l ≡ None
 unfolding any_of find
 unfound f [] e = refl
 unfound f (x ∷ l) e = go (f x) e (unfound f l)
   where
-    go : (b : Bool) → pick b true (any_of f l) ≡ false → (any_of f l ≡ false → find f l ≡ none) → pick b (some x) (find f l) ≡ none
+    go : (b : Bool) → pick b true (any_of f l) ≡ false → (any_of f l ≡ false → find f l ≡ None) → pick b (Some x) (find f l) ≡ None
     go true q h = absurd (true≢false q)
     go false q h = h q
 
@@ -182,13 +178,13 @@ module _ (p : List ℕ) (t : Turns) (lk : length t.records ≡ 136) (ln : length
       there : (b : Bool) → any_of (wires_to p (dest_at p k)) (take t.count t.records) ≡ b → pick b true (ltb t.count 136) ≡ true
       there true i = refl
       there false i =
-          let no : find (is_dest (dest_at p k)) (seen_turns p t) ≡ none = unfound (is_dest (dest_at p k)) (seen_turns p t) (any-is ∙ i) in
+          let no : find (is_dest (dest_at p k)) (seen_turns p t) ≡ None = unfound (is_dest (dest_at p k)) (seen_turns p t) (any-is ∙ i) in
           fewer (leb 136 (length (seen_turns p t))) refl (subst (λ (o : Option Turn). declined_by o delta (seen_turns p t) ≡ 0) no q)
 
 -- ── an encoder ──
 
 -- the record in reach is an encoder's, and its number a u16
-module _ (p : List ℕ) (bank number k : ℕ) (q : encoder_place p bank number ≡ place.At k) where
+module _ (p : List ℕ) (bank number k : ℕ) (q : encoder_place p bank number ≡ Some k) where
   pub place-encoder : is_encoder p k ≡ true
   place-encoder = let h = encoder-place-is p bank number k q in rw (lt-ltb k (records p) h.0, h.1)
 
@@ -200,21 +196,21 @@ module _ (p : List ℕ) (s : Session) (ch : ℕ) (delta : ℤ) where
   turns = seen_turns p s.turns
 
   -- what a turn leaves
-  abbrev leaves : Found → Kept
+  abbrev leaves : Option Destination → Kept
   leaves f = kept_with (with_desk (seen p s) (desk s.marks s.moves (seen_line s.line) (turn_to f delta turns))) s.opened
 
-  abbrev ends : Bool → Found → Stepped
+  abbrev ends : Bool → Option Destination → Stepped
   ends b f = pick b (stepped (done [] [] 0 false) (leaves f)) (stepped (refused (refusal_to f delta turns)) (seen p s))
 
   module _ (now : Float) (answers : List ℕ) where
-    encoder-ends : (f : Place) → encoder_place p s.bank (ch + 1) ≡ f →
+    encoder-ends : (f : Option ℕ) → encoder_place p s.bank (ch + 1) ≡ f →
         step (view_of p) (seen p s) (turned_at now ch delta) answers ≡ ends (eqb (refusal_to (found_at p f) delta turns) 0) (found_at p f)
     unfolding step refusal turn_refusal encoder encoder_dest act seen
     encoder-ends f q =
         at (eqb (refusal_to wired delta turns) 0)
-        ∙ ap (λ (x : Found). ends (eqb (refusal_to x delta turns) 0) x) (sym (encoder_place_found p s.bank (ch + 1)) ∙ ap (found_at p) q)
+        ∙ ap (λ (x : Option Destination). ends (eqb (refusal_to x delta turns) 0) x) (sym (encoder_place_found p s.bank (ch + 1)) ∙ ap (found_at p) q)
       where
-        wired : Found
+        wired : Option Destination
         wired = precede (encoder_of p 255 (ch + 1)) (encoder_of p s.bank (ch + 1))
 
         at : (b : Bool) → step_if b (refusal_to wired delta turns) (turned_at now ch delta) (view_of p) (seen p s) answers ≡ ends b wired
@@ -223,31 +219,31 @@ module _ (p : List ℕ) (s : Session) (ch : ℕ) (delta : ℤ) where
 
   module _ (e : well_shaped p s ≡ true) where
     -- no encoder is there
-    pub unwired : (o : Outcome) → o ≡ outcome.Done 0 0 0 false → encoder_place p s.bank (ch + 1) ≡ place.Nothing →
+    pub unwired : (o : Outcome) → o ≡ outcome.Done 0 0 0 false → encoder_place p s.bank (ch + 1) ≡ None →
         TurnsAs p s ch delta (record { outcome = o; session = s; changed = false })
     unfolding seen joined encode at_front
     unwired o q bare now answers ms cs =
-        rw (encoder-ends now answers place.Nothing bare)
+        rw (encoder-ends now answers None bare)
         (record { outcome = q; session = refl; still = λ i. absurd (true≢false i); same = λ _. refl; shaped = λ _. e; messages = refl; calls = refl; few = (omega arith, omega arith) })
 
     -- a turn that is declined
-    pub unturned : (k why : ℕ) → encoder_place p s.bank (ch + 1) ≡ place.At k → why ≡ declined_by (find (is_dest (dest_at p k)) turns) delta turns → (why ≡ 0 → ⊥) →
+    pub unturned : (k why : ℕ) → encoder_place p s.bank (ch + 1) ≡ Some k → why ≡ declined_by (find (is_dest (dest_at p k)) turns) delta turns → (why ≡ 0 → ⊥) →
         TurnsAs p s ch delta (record { outcome = outcome.Refused why; session = s; changed = false })
     unturned k why q d declines now answers ms cs =
-        rw (encoder-ends now answers (place.At k) q, ← d, ne_eqb why 0 declines)
+        rw (encoder-ends now answers (Some k) q, ← d, ne_eqb why 0 declines)
         (record { outcome = refl; session = refl; still = λ _. refl; same = λ _. refl; shaped = λ _. e; messages = refl; calls = refl; few = tt })
 
     -- a turn that adds to its sum: `after` is what the sums are then
     pub turned : (k : ℕ) (after : Turns) (o : Outcome) → verdict p ≡ 0 → length s.opened ≡ 16 → ch < 8 → in_range delta ≡ true →
-        encoder_place p s.bank (ch + 1) ≡ place.At k → declined_by (find (is_dest (dest_at p k)) turns) delta turns ≡ 0 →
+        encoder_place p s.bank (ch + 1) ≡ Some k → declined_by (find (is_dest (dest_at p k)) turns) delta turns ≡ 0 →
         seen_turns p after ≡ turn (dest_at p k) delta turns → all_of (is_encoder p) (take after.count after.records) ≡ true → after.count ≤ 136 →
         o ≡ outcome.Done 0 0 0 false → TurnsAs p s ch delta (record { outcome = o; session = with_turns s after; changed = true })
     unfolding seen joined encode at_front
     turned k after o accepted long low small q d sums wired few r now answers ms cs =
-        let x = encoder-ends now answers (place.At k) q in
-        let y : step (view_of p) (seen p s) (turned_at now ch delta) answers ≡ ends true (found_at p (place.At k)) =
-        x ∙ ap (λ (n : ℕ). ends (eqb n 0) (found_at p (place.At k))) d in
-        let z : seen p (with_turns s after) ≡ leaves (found_at p (place.At k)) =
+        let x = encoder-ends now answers (Some k) q in
+        let y : step (view_of p) (seen p s) (turned_at now ch delta) answers ≡ ends true (found_at p (Some k)) =
+        x ∙ ap (λ (n : ℕ). ends (eqb n 0) (found_at p (Some k))) d in
+        let z : seen p (with_turns s after) ≡ leaves (found_at p (Some k)) =
         ap (λ (l : List Turn). kept_with (with_desk (seen p s) (desk s.marks s.moves (seen_line s.line) l)) s.opened) sums in
         let w : Well p (step (view_of p) (seen p s) (turned_at now ch delta) answers).kept =
         step_well p accepted (seen p s) (well_seen p s long e) (turned_at now ch delta) (low, small) answers in
@@ -269,10 +265,10 @@ module _ (p : List ℕ) (s : Session) (ch : ℕ) (delta : ℤ) where
 -- ── a fader ──
 
 -- in control of its destination it asks nothing
-pub controls : (f : Found) (k ch : ℕ) (value : Float) (d : Desk) (t : Talk) → is_marked k d.marks ≡ true →
+pub controls : (f : Option Destination) (k ch : ℕ) (value : Float) (d : Desk) (t : Talk) → is_marked k d.marks ≡ true →
     got (left_by (controlled f) k ch value d) t ≡ fader_to f k ch value d t
-controls (found.To e) k ch value d t q = rw (q, and-false e.takeover)
-controls found.Nothing k ch value d t q = refl
+controls (Some e) k ch value d t q = rw (q, and-false e.takeover)
+controls None k ch value d t q = refl
 
 module _ (p : List ℕ) (s : Session) (ch : ℕ) (value : Float) (answers : List ℕ) (c : Current) (v : Verdict) where
   -- the verdict v and the line u are those of the move
@@ -289,7 +285,7 @@ module _ (p : List ℕ) (s : Session) (ch : ℕ) (value : Float) (answers : List
       ∙ controls (destination (rig_in p c) (ch + 1)) (s.bank * 16 + ch) ch value (seen p s).desk (start answers s.opened) m
 
   -- and else what the handler says, of the last move there
-  pub asked : (last : Level) (t u : Talk) → t ≡ start answers s.opened → Fades (destination (rig_in p c) (ch + 1)) last value t v u →
+  pub asked : (last : Option Float) (t u : Talk) → t ≡ start answers s.opened → Fades (destination (rig_in p c) (ch + 1)) last value t v u →
       is_marked (s.bank * 16 + ch) s.marks ≡ false → last ≡ last_move (s.bank * 16 + ch) s.moves → Ran u
   unfolding seen
   asked last t u b f m l =

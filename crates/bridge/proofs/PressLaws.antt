@@ -1,4 +1,5 @@
 -- What a press does by the kind of its button, and what its calls promise of it. Assumes nothing.
+use Rattle.std.proofs.Common.{None, Option, Some}
 use Prim.Native.Nat.{ℕ, ◌+◌, ◌-◌, ◌≤◌, ◌<◌}
 use mathlib.Core.Path.{◌≡◌, refl, sym, ap, ◌∙◌}
 use mathlib.Core.Bool.{Bool, true, false, ◌||◌, true≢false}
@@ -13,12 +14,8 @@ use borrow.Author.Tests.{ltb-true, ltb-false, lt-ltb, ne_eqb}
 use Rattle.base.specs.Choice.{pick}
 use Rattle.base.specs.RangeLaws.{and_right}
 use Rattle.base.specs.FirstLaws.{first-at}
-use Rattle.base.specs.declared.Place.{Place}
-use Rattle.base.specs.declared.Place.TheVariants as place
 use Rattle.protocol.specs.Protocol.{channel_bases, is_of_base, base_of, channel_by, kind_of, channel_of}
 use Rattle.protocol.specs.declared.Button.{Button}
-use Rattle.protocol.specs.declared.Found.{Found}
-use Rattle.protocol.specs.declared.Found.TheVariants as channel
 use Rattle.protocol.specs.declared.Event.{Event}
 use Rattle.protocol.specs.declared.Event.TheVariants as event
 use Rattle.profile.specs.Profile.{bank_count, verdict}
@@ -27,7 +24,6 @@ use Rattle.lookup.specs.Lookup.{select_of}
 use Rattle.drivers.specs.Talk.{Talk}
 use Rattle.drivers.specs.Shown.{shown}
 use Rattle.drivers.specs.declared.Io.{Io}
-use Rattle.drivers.specs.declared.Level.{Level}
 use Rattle.session.specs.Session.{hushed_up_to, targets_of}
 use Rattle.session.specs.SessionLaws.{targets_seen}
 use Rattle.session.specs.declared.Lamps.{Lamps}
@@ -44,31 +40,29 @@ use Rattle.bridge.specs.Presses.{selected_by, bank_after, PressesHere, PressesTh
 use Rattle.bridge.specs.Which.{hand_of, press_in, is_nothing, bank_by, adds_by}
 use Rattle.bridge.specs.declared.buttons.Pressed.{Pressed}
 use Rattle.bridge.specs.declared.which.Hand.TheVariants as hand
-use Rattle.bridge.specs.declared.which.Press as presses
-use Rattle.bridge.specs.declared.which.Press.TheVariants as press
 
 -- ── the channel ──
 
 -- a base that has the note has it among its eight
-channel_by_lem : (note c : ℕ) (b : Place) → base_of note ≡ b → channel_by note b ≡ channel.At c → c < 8
+channel_by_lem : (note c : ℕ) (b : Option ℕ) → base_of note ≡ b → channel_by note b ≡ Some c → c < 8
 unfolding base_of
-channel_by_lem note c (place.At k) e q =
+channel_by_lem note c (Some k) e q =
     let w = first-at (is_of_base note) 4 k e in
     let low : note < get_or channel_bases k 0 + 8 = ltb-true _ _ (and_right (leb (get_or channel_bases k 0) note) _ w.1) in
     let is : note - get_or channel_bases k 0 ≡ c = cc in
     omega arith
-channel_by_lem note c place.Nothing e q = let z : ◌≡◌ {A = Bool} true false = cc in absurd (true≢false z)
+channel_by_lem note c None e q = let z : ◌≡◌ {A = Bool} true false = cc in absurd (true≢false z)
 
-low_channel_lem : (note : ℕ) (f : Found) → channel_of note ≡ f → or_first f < 8
+low_channel_lem : (note : ℕ) (f : Option ℕ) → channel_of note ≡ f → or_first f < 8
 unfolding channel_of
-low_channel_lem note (channel.At c) e = channel_by_lem note c (base_of note) refl e
-low_channel_lem note channel.Nothing e = omega arith
+low_channel_lem note (Some c) e = channel_by_lem note c (base_of note) refl e
+low_channel_lem note None e = omega arith
 
-module _ (note : ℕ) (f : Found) (e : f ≡ channel_of note) where
-  pub at-channel : (c : ℕ) → f ≡ channel.At c → (c ≡ or_first (channel_of note)) × (c < 8)
-  at-channel c q = (rw (← e, q), low_channel_lem note (channel.At c) (sym e ∙ q))
+module _ (note : ℕ) (f : Option ℕ) (e : f ≡ channel_of note) where
+  pub at-channel : (c : ℕ) → f ≡ Some c → (c ≡ or_first (channel_of note)) × (c < 8)
+  at-channel c q = (rw (← e, q), low_channel_lem note (Some c) (sym e ∙ q))
 
-  pub no_channel : f ≡ channel.Nothing → (0 ≡ or_first (channel_of note)) × (0 < 8)
+  pub no_channel : f ≡ None → (0 ≡ or_first (channel_of note)) × (0 < 8)
   no_channel q = (rw (← e, q), omega arith)
 
 -- ── kinds side by side ──
@@ -204,13 +198,13 @@ pub other-kind : (note k : ℕ) → k ≡ kind_of note → (k < 1) ⊎ (((3 ≤ 
 other-kind note k e a = rw (← e) (is-other k a)
 
 -- the last move is that of the same fader where the bank stays
-same_home : (p : List ℕ) (here there : Current) (home : Level) (l : Lamps) (m : Moves) → there.bank ≡ here.bank →
+same_home : (p : List ℕ) (here there : Current) (home : Option Float) (l : Lamps) (m : Moves) → there.bank ≡ here.bank →
     IsHome home (rig_in p there) l m → IsHome home (rig_in p here) l m
 same_home p here there home l m q h on = rw (← q) (h on)
 
 -- ── R, the square button, or one that is bound to a command ──
 
-module _ (p : List ℕ) (here there : Current) (l : Lamps) (n : ℕ) (ts : List ℕ) (home : Level) (now : Float) (t : Talk) (x : Pressed) (note k ch : ℕ) (e : k ≡ kind_of note)
+module _ (p : List ℕ) (here there : Current) (l : Lamps) (n : ℕ) (ts : List ℕ) (home : Option Float) (now : Float) (t : Talk) (x : Pressed) (note k ch : ℕ) (e : k ≡ kind_of note)
     (c : ch ≡ or_first (channel_of note)) where
   module _ (u : Talk) where
     pub other-rec : k ≡ 0 → there.bank ≡ bank_after p here.bank note → PressesHere (rec ch) p here l n ts home now t x u →
@@ -230,7 +224,7 @@ module _ (p : List ℕ) (here there : Current) (l : Lamps) (n : ℕ) (ts : List 
 
 -- ── any button: n levels are silenced ──
 
-module _ (p : List ℕ) (here there : Current) (l : Lamps) (n : ℕ) (ts : List ℕ) (ls : List Float) (home : Level) (now : Float) (t : Talk) (x : Pressed) (u : Talk) (note k : ℕ)
+module _ (p : List ℕ) (here there : Current) (l : Lamps) (n : ℕ) (ts : List ℕ) (ls : List Float) (home : Option Float) (now : Float) (t : Talk) (x : Pressed) (u : Talk) (note k : ℕ)
     (e : k ≡ kind_of note) where
   -- what the button promises where the arrays hold ts and ls again
   abbrev Done : Type 0
@@ -268,14 +262,14 @@ module _ (p : List ℕ) (here there : Current) (l : Lamps) (n : ℕ) (ts : List 
 -- ── which event it is ──
 
 -- an event that is no message is no hand's and no press, and is for something
-pub unheard : (w : Input) → ((m : Event) → w ≡ input.Midi m → ⊥) → (hand.None ≡ hand_of w) × (press.None ≡ press_in w) × (false ≡ is_nothing w)
+pub unheard : (w : Input) → ((m : Event) → w ≡ input.Midi m → ⊥) → (hand.None ≡ hand_of w) × (None ≡ press_in w) × (false ≡ is_nothing w)
 unheard (input.Midi m) k = absurd (k m refl)
 unheard input.Tick k = (refl, refl, refl)
 unheard input.PushState k = (refl, refl, refl)
 unheard input.PushTransport k = (refl, refl, refl)
 unheard input.FlashBank k = (refl, refl, refl)
 
-unpressed : (m : Event) → ((b : Button) → m ≡ event.Button b → ⊥) → press.None ≡ press_in (input.Midi m)
+unpressed : (m : Event) → ((b : Button) → m ≡ event.Button b → ⊥) → None ≡ press_in (input.Midi m)
 unpressed (event.Fader ch value) k = refl
 unpressed (event.Encoder ch delta) k = refl
 unpressed (event.Button b) k = absurd (k b refl)
@@ -289,20 +283,20 @@ module _ (w : Input) (m : Event) (e : w ≡ input.Midi m) where
   pub hand_encoder : (ch : ℕ) (delta back : ℤ) → m ≡ event.Encoder ch delta → back ≡ delta → hand.Encoder ch back ≡ hand_of w
   hand_encoder ch delta back q r = rw (e, q, r)
 
-  pub no_press : ((b : Button) → m ≡ event.Button b → ⊥) → press.None ≡ press_in w
+  pub no_press : ((b : Button) → m ≡ event.Button b → ⊥) → None ≡ press_in w
   no_press k = rw e (unpressed m k)
 
-  pub a_press : (b : Button) → m ≡ event.Button b → b.pressed ≡ true → press.Of b ≡ press_in w
+  pub a_press : (b : Button) → m ≡ event.Button b → b.pressed ≡ true → Some b ≡ press_in w
   a_press b q r = rw (e, q, r)
 
 -- ── the same by the press, if there is one ──
 
-pub bank_by_lem : (p : List ℕ) (bank r : ℕ) (x : presses.Press) (b : Button) → x ≡ press.Of b → r ≡ bank_after p bank b.note → r ≡ bank_by p bank x
+pub bank_by_lem : (p : List ℕ) (bank r : ℕ) (x : Option Button) (b : Button) → x ≡ Some b → r ≡ bank_after p bank b.note → r ≡ bank_by p bank x
 bank_by_lem p bank r x b q e = rw q e
 
-module _ (p : List ℕ) (here : Current) (l : Lamps) (ts : List ℕ) (x : presses.Press) where
-  pub adds_by_lem : (r : ℕ) (b : Button) → x ≡ press.Of b → r ≡ length (added_of p here l b.note ts) → r ≡ length (adds_by p here l x ts)
+module _ (p : List ℕ) (here : Current) (l : Lamps) (ts : List ℕ) (x : Option Button) where
+  pub adds_by_lem : (r : ℕ) (b : Button) → x ≡ Some b → r ≡ length (added_of p here l b.note ts) → r ≡ length (adds_by p here l x ts)
   adds_by_lem r b q e = rw q e
 
-  pub adds_nothing : x ≡ press.None → 0 ≡ length (adds_by p here l x ts)
+  pub adds_nothing : x ≡ None → 0 ≡ length (adds_by p here l x ts)
   adds_nothing q = rw q

@@ -1,4 +1,5 @@
 -- How an event of the definition ends, said in terms of the line and of what the event leaves. Assumes nothing.
+use Rattle.std.proofs.Common.{None, Option, Some}
 use Prim.Native.Nat.{ℕ, suc, ◌≤◌, ◌<◌}
 use mathlib.Core.Path.{◌≡◌, refl, sym, ap, subst, ◌∙◌}
 use mathlib.Core.Bool.{Bool, true, false, ◌&&◌, ◌||◌, not, true≢false, false≢true}
@@ -29,8 +30,6 @@ use Rattle.event.specs.Event.{read_of}
 use Rattle.event.specs.declared.Input.{Input}
 use Rattle.event.specs.declared.Input.TheVariants as input
 use Rattle.event.specs.declared.Timed.{Timed}
-use Rattle.event.specs.declared.Read.{Read}
-use Rattle.event.specs.declared.Read.TheVariants.{Known, Unknown}
 use Rattle.definition.specs.Rig.{Rig}
 use Rattle.definition.specs.Faders.{desk, in_range, nudges, writes, drain, drained}
 use Rattle.definition.specs.Flash.{tick_flash}
@@ -413,14 +412,14 @@ module _ (p : List ℕ) (s : Session) (event-bytes answers : List ℕ) (m c : �
       verdict-at false i w j r k h = let z : eqb (verdict p) 0 ≡ true = eq-eqb (verdict p) 0 h in absurd (false≢true (sym i ∙ z))
 
   -- one that is read does what the definition says of it
-  pub passes_on : declined_of p s m c ≡ 0 → (r : Read) (e : Timed) → r ≡ read_of event-bytes → r ≡ Known e →
+  pub passes_on : declined_of p s m c ≡ 0 → (r : Option Timed) (e : Timed) → r ≡ read_of event-bytes → r ≡ Some e →
       (ms cs : List ℕ) (x : declared.Stepped) (ms₁ cs₁ : List ℕ) → Delivers (step (view_of p) (seen p s) e answers) p s ms cs x ms₁ cs₁ →
       Delivers (whole p s event-bytes answers m c) p s ms cs x ms₁ cs₁
   passes_on q r e i j ms cs x ms₁ cs₁ d =
       let so : whole p s event-bytes answers m c ≡ step (view_of p) (seen p s) e answers =
-      (passes q).so ∙ ap (λ (z : Read). offered z p (seen p s) answers) (sym i ∙ j) in
+      (passes q).so ∙ ap (λ (z : Option Timed). offered z p (seen p s) answers) (sym i ∙ j) in
       subst (λ (z : Stepped). Delivers z p s ms cs x ms₁ cs₁) (sym so) d
 
   -- 10
-  pub unread : declined_of p s m c ≡ 0 → (r : Read) → r ≡ read_of event-bytes → r ≡ Unknown → whole p s event-bytes answers m c ≡ stepped (refused 10) (seen p s)
-  unread q r i j = (passes q).so ∙ ap (λ (z : Read). offered z p (seen p s) answers) (sym i ∙ j)
+  pub unread : declined_of p s m c ≡ 0 → (r : Option Timed) → r ≡ read_of event-bytes → r ≡ None → whole p s event-bytes answers m c ≡ stepped (refused 10) (seen p s)
+  unread q r i j = (passes q).so ∙ ap (λ (z : Option Timed). offered z p (seen p s) answers) (sym i ∙ j)

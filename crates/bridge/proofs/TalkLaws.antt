@@ -1,4 +1,5 @@
 -- An event that ran on scratch buffers, and number 11 before it. Assumes nothing.
+use Rattle.std.proofs.Common.{None, Option, Some}
 use Prim.Native.Nat.{ℕ, zero, suc, ◌+◌, ◌*◌, ◌%◌, ◌≤◌, ◌<◌}
 use mathlib.Core.Path.{◌≡◌, refl, sym, ap, ◌∙◌}
 use mathlib.Core.Bool.{Bool, true, false, ◌&&◌, ◌||◌, false≢true}
@@ -19,12 +20,9 @@ use Rattle.protocol.specs.declared.Event.TheVariants as event
 use Rattle.profile.specs.Profile.{bank_count, verdict}
 use Rattle.lookup.specs.Lookup.{remember_of, select_of}
 use Rattle.lookup.specs.View.{view_of}
-use Rattle.lookup.specs.declared.Found.{Found}
-use Rattle.lookup.specs.declared.Found.TheVariants as found
 use Rattle.drivers.specs.Talk.{Talk, Got, got, start}
 use Rattle.drivers.specs.Shown.{shown}
 use Rattle.drivers.specs.declared.Io.{Io}
-use Rattle.drivers.specs.declared.Level.{Level}
 use Rattle.session.specs.Session.{last_move, seen_line, seen_turns, Hushed, hushed_at, hushed_up_to, targets_of, is_hushed, seen_silenced}
 use Rattle.session.specs.SessionLaws.{targets_seen}
 use Rattle.session.specs.declared.Session.{Session}
@@ -51,8 +49,6 @@ use Rattle.surface.specs.Home.{IsHome}
 use Rattle.delivery.specs.Delivery.{outcome_of, is_done, messages_after, calls_after, end_of, HasRoom, Ends}
 use Rattle.delivery.specs.declared.End.{End}
 use Rattle.bridge.specs.declared.Talked.{Talked}
-use Rattle.bridge.specs.declared.which.Press.{Press}
-use Rattle.bridge.specs.declared.which.Press.TheVariants as press
 use Rattle.bridge.specs.Presses.{selected_by, bank_after, added_of}
 use Rattle.bridge.specs.Which.{is_tick, press_if, press_in, runs, bank_by, adds_by}
 use Rattle.bridge.specs.Bridge.{Delivers, IsCurrent, drain_if, setting_of, act_of, Talks}
@@ -61,12 +57,13 @@ use Rattle.bridge.proofs.Fit.{row_low}
 use Rattle.bridge.proofs.ButtonsLaws.{next_low}
 use Rattle.bridge.proofs.HandLaws.{rig_is}
 use Rattle.bridge.proofs.StepLaws.{stays, goes, room_for_lem, undone_delivers, done_delivers, runs_low}
+use Rattle.lookup.specs.declared.Destination.{Destination}
 
 -- ── a press adds at most sixteen ──
 
-adding_long : (f : Found) (ts l : List ℕ) → length (adding f ts l) ≤ suc (length l)
-adding_long found.Nothing ts l = omega arith
-adding_long (found.To d) ts l = at (has_mute d) (is_hushed (kept_by d) ts)
+adding_long : (f : Option Destination) (ts l : List ℕ) → length (adding f ts l) ≤ suc (length l)
+adding_long None ts l = omega arith
+adding_long (Some d) ts l = at (has_mute d) (is_hushed (kept_by d) ts)
   where
     hushed_at_lem : (h : Bool) → length (pick h l (change (is_same (kept_by d)) (λ x. x) (kept_by d) l)) ≤ suc (length l)
     hushed_at_lem true = omega arith
@@ -76,11 +73,11 @@ adding_long (found.To d) ts l = at (has_mute d) (is_hushed (kept_by d) ts)
     at true h = omega arith
     at false h = hushed_at_lem (is_hushed (kept_by d) ts)
 
-solo_long : (of : ℕ → Found) (fader : ℕ) (ts : List ℕ) (n : ℕ) → length (solo_adds of fader ts n) ≤ n
+solo_long : (of : ℕ → Option Destination) (fader : ℕ) (ts : List ℕ) (n : ℕ) → length (solo_adds of fader ts n) ≤ n
 unfolding solo_adds
 solo_long of fader ts zero = omega arith
 solo_long of fader ts (suc n) =
-    omega (arith, solo_long of fader ts n, adding_long (pick (eqb (n + 1) fader) found.Nothing (of (n + 1))) ts (solo_adds of fader ts n))
+    omega (arith, solo_long of fader ts n, adding_long (pick (eqb (n + 1) fader) None (of (n + 1))) ts (solo_adds of fader ts n))
 
 mute_few : (r : Rig) (n : ℕ) (ts : List ℕ) → length (added_by_mute r n ts) ≤ 16
 unfolding added_by_mute
@@ -90,18 +87,18 @@ solo_few : (r : Rig) (n : ℕ) (l : Lamps) (ts : List ℕ) → length (added_by_
 unfolding added_by_solo
 solo_few r n l ts = at (destination r n)
   where
-    at : (f : Found) → length (adds_to f r n l ts) ≤ 16
-    at found.Nothing = omega arith
-    at (found.To d) = turn_at_lem (eqb l.soloed n)
+    at : (f : Option Destination) → length (adds_to f r n l ts) ≤ 16
+    at None = omega arith
+    at (Some d) = turn_at_lem (eqb l.soloed n)
       where
         turn_at_lem : (b : Bool) → length (pick b [] (solo_adds (peer r d.group) n ts 16)) ≤ 16
         turn_at_lem true = omega arith
         turn_at_lem false = solo_long (peer r d.group) n ts 16
 
-pub adds_few : (p : List ℕ) (here : Current) (l : Lamps) (x : Press) (ts : List ℕ) → length (adds_by p here l x ts) ≤ 16
+pub adds_few : (p : List ℕ) (here : Current) (l : Lamps) (x : Option Button) (ts : List ℕ) → length (adds_by p here l x ts) ≤ 16
 unfolding added_of
-adds_few p here l press.None ts = omega arith
-adds_few p here l (press.Of b) ts = at (eqb (kind_of b.note) 2) (eqb (kind_of b.note) 1)
+adds_few p here l None ts = omega arith
+adds_few p here l (Some b) ts = at (eqb (kind_of b.note) 2) (eqb (kind_of b.note) 1)
   where
     n : ℕ
     n = or_first (channel_of b.note) + 1
@@ -144,23 +141,23 @@ module _ (p : List ℕ) (s : Session) (here : Current) (now : Float) (rig : rig_
   unfolding added_of added_by seen
   adds_same note = rw (rig, targets_seen n s.silenced.targets s.silenced.levels wide)
 
-  none_so : (x : Press) → x ≡ press.None → (added : ℕ) → added ≡ length (adds_by p here s.lamps x ts) → eleven_if (ltb 256 (n + added)) ≡ 0
+  none_so : (x : Option Button) → x ≡ None → (added : ℕ) → added ≡ length (adds_by p here s.lamps x ts) → eleven_if (ltb 256 (n + added)) ≡ 0
   none_so x hx added ha =
-      let z : added ≡ 0 = ha ∙ ap (λ (y : Press). length (adds_by p here s.lamps y ts)) hx in
+      let z : added ≡ 0 = ha ∙ ap (λ (y : Option Button). length (adds_by p here s.lamps y ts)) hx in
       rw (z, not-over)
 
-  pressed_so : (b : Button) (x : Press) → x ≡ press.Of b → (added : ℕ) → added ≡ length (adds_by p here s.lamps x ts) →
+  pressed_so : (b : Button) (x : Option Button) → x ≡ Some b → (added : ℕ) → added ≡ length (adds_by p here s.lamps x ts) →
       eleven_if (ltb 256 (n + added))
       ≡ eleven_if (ltb 256 (length (seen p s).silenced + length (added_by b.note (press_at (view_of p) (seen p s) now))))
   unfolding seen
   pressed_so b x hx added ha =
       let z : added ≡ length (added_by b.note (press_at (view_of p) (seen p s) now)) =
-      ha ∙ ap (λ (y : Press). length (adds_by p here s.lamps y ts)) hx ∙ ap length (adds_same b.note) in
+      ha ∙ ap (λ (y : Option Button). length (adds_by p here s.lamps y ts)) hx ∙ ap length (adds_same b.note) in
       ap (λ (k : ℕ). eleven_if (ltb 256 (n + k))) z
       ∙ ap (λ (k : ℕ). eleven_if (ltb 256 (k + length (added_by b.note (press_at (view_of p) (seen p s) now)))))
       (sym (silenced_long n s.silenced.targets s.silenced.levels long wide))
 
-  press_so : (b : Button) → b.pressed ≡ true → (x : Press) → x ≡ press_if b.pressed b → (added : ℕ) → added ≡ length (adds_by p here s.lamps x ts) →
+  press_so : (b : Button) → b.pressed ≡ true → (x : Option Button) → x ≡ press_if b.pressed b → (added : ℕ) → added ≡ length (adds_by p here s.lamps x ts) →
       eleven_if (ltb 256 (n + added)) ≡ overfull b.pressed (view_of p) (seen p s) now b.note
   press_so b r x hx added ha = at b.pressed r hx
     where
@@ -168,7 +165,7 @@ module _ (p : List ℕ) (s : Session) (here : Current) (now : Float) (rig : rig_
       at true q h = pressed_so b x h added ha
       at false q h = absurd (false≢true q)
 
-  pub over_so : (what : Input) → runs what ≡ true → (x : Press) → x ≡ press_in what → (added : ℕ) → added ≡ length (adds_by p here s.lamps x ts) →
+  pub over_so : (what : Input) → runs what ≡ true → (x : Option Button) → x ≡ press_in what → (added : ℕ) → added ≡ length (adds_by p here s.lamps x ts) →
       eleven_if (ltb 256 (n + added)) ≡ refusal what (view_of p) (seen p s) now
   unfolding refusal
   over_so (input.Midi (event.Fader ch y)) r x hx added ha = absurd (false≢true r)
@@ -192,10 +189,10 @@ selected_low p bank ch h = at (select_of p bank) (ltb ch (bank_count p)) refl
     at true false q = h
     at false b q = h
 
-pub bank_by_low : (p : List ℕ) (bank : ℕ) (x : Press) → bank < bank_count p → bank_by p bank x < bank_count p
+pub bank_by_low : (p : List ℕ) (bank : ℕ) (x : Option Button) → bank < bank_count p → bank_by p bank x < bank_count p
 unfolding bank_after
-bank_by_low p bank press.None h = h
-bank_by_low p bank (press.Of b) h =
+bank_by_low p bank None h = h
+bank_by_low p bank (Some b) h =
     at (eqb (kind_of b.note) 5 || eqb (kind_of b.note) 9) (eqb (kind_of b.note) 4 || eqb (kind_of b.note) 8) (eqb (kind_of b.note) 3)
   where
     at : (x y z : Bool) →
@@ -224,14 +221,14 @@ fits_so p s here now rig long wide few what r free =
     at false q h = ltb-false 256 _ q
 
 module _ (p : List ℕ) (s : Session) (shaped : well_shaped p s ≡ true) where
-  home_so : (there : Current) (bank : ℕ) (home : Level) → there.bank ≡ bank → home ≡ last_move (bank * 16 + s.lamps.flash.row % 16) s.moves →
+  home_so : (there : Current) (bank : ℕ) (home : Option Float) → there.bank ≡ bank → home ≡ last_move (bank * 16 + s.lamps.flash.row % 16) s.moves →
       IsHome home (rig_in p there) s.lamps s.moves
   home_so there bank home q h on =
       let low : s.lamps.flash.row ≤ 7 = row_low p s shaped on in
       let same : s.lamps.flash.row % 16 ≡ s.lamps.flash.row = omega arith in
       h ∙ ap (λ r. last_move (bank * 16 + r) s.moves) same ∙ ap (λ b. last_move (b * 16 + s.lamps.flash.row) s.moves) (sym q)
 
-  pub given_so : (here there : Current) (after : ℕ) (home : Level) (n : ℕ) (ts : List ℕ) (ls : List Float) → IsCurrent s.live s.bank here →
+  pub given_so : (here there : Current) (after : ℕ) (home : Option Float) (n : ℕ) (ts : List ℕ) (ls : List Float) → IsCurrent s.live s.bank here →
       IsCurrent s.live after there → home ≡ last_move (after * 16 + s.lamps.flash.row % 16) s.moves → n ≡ s.silenced.count → ts ≡ s.silenced.targets →
       ls ≡ s.silenced.levels → Given p (seen p s) here there s.lamps (hushed_up_to n ts ls) home
   unfolding seen

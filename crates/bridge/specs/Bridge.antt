@@ -1,6 +1,5 @@
 -- What one event of the bridge promises: its outcome, the session after it, and each byte of both lent buffers. Definitions only.
-use Rattle.std.specs.Prelude.{ℕ, ◌≤◌, ◌≡◌, Bool, true, false, ◌&&◌, ◌||◌, not, List, map, eqb, ltb, ℤ, get_or, Float}
-use Rattle.std.proofs.Math.Option.{none}
+use Rattle.std.specs.Prelude.{ℕ, ◌≤◌, ◌≡◌, Bool, true, false, ◌&&◌, ◌||◌, not, List, map, eqb, ltb, ℤ, get_or, Float, None}
 use Rattle.base.specs.Choice.{pick}
 use Rattle.protocol.specs.declared.Event.TheVariants as event
 use Rattle.profile.specs.Profile.{verdict}
@@ -64,7 +63,7 @@ declined_of p s messages calls =
 -- a bank with its live faders, within their places; a list that is not known counts as empty
 pub record IsCurrent (l : Live) (b : ℕ) (c : Current) : Type 0 where
   pub bank : c.bank ≡ b
-  pub strips : seen_strips c.strips ≡ get_or (map seen_strips l.banks) b none
+  pub strips : seen_strips c.strips ≡ get_or (map seen_strips l.banks) b None
   pub few : c.strips.count ≤ 8
 
 -- a tick with nothing to do

@@ -1,11 +1,10 @@
 -- A press, where the handlers are handed the bank that is current after it and the last move of the flash's row there. Definitions only.
-use Rattle.std.specs.Prelude.{ℕ, ◌+◌, ◌≡◌, Bool, true, false, ◌&&◌, ◌||◌, List, [], eqb, ltb, Float}
+use Rattle.std.specs.Prelude.{ℕ, ◌+◌, ◌≡◌, Bool, true, false, ◌&&◌, ◌||◌, List, [], eqb, ltb, Float, Option}
 use Rattle.base.specs.Choice.{pick}
 use Rattle.protocol.specs.Protocol.{kind_of, channel_of}
 use Rattle.profile.specs.Profile.{bank_count}
 use Rattle.lookup.specs.Lookup.{select_of}
 use Rattle.drivers.specs.Talk.{Talk, Act, got}
-use Rattle.drivers.specs.declared.Level.{Level}
 use Rattle.session.specs.Session.{Hushed, targets_of}
 use Rattle.session.specs.declared.Lamps.{Lamps}
 use Rattle.session.specs.declared.Moves.{Moves}
@@ -42,19 +41,19 @@ abbrev pub seen_pressed : declared.Pressed → List Hushed → Pressed
 seen_pressed x s = pressed x.bank x.lamps s x.moved x.saved
 
 -- a press in the current bank that leaves the silenced levels alone, whatever they are, and their count n
-abbrev pub PressesHere : (Press → Act Pressed) → List ℕ → Current → Lamps → ℕ → List ℕ → Level → Float → Talk → declared.Pressed → Talk → Type 0
+abbrev pub PressesHere : (Press → Act Pressed) → List ℕ → Current → Lamps → ℕ → List ℕ → Option Float → Float → Talk → declared.Pressed → Talk → Type 0
 PressesHere f p here l n ts home now t x u =
     ((rig_at : ℕ → Rig) (m : Moves) (s : List Hushed) → targets_of s ≡ ts → IsHome home (rig_in p here) l m →
     got (seen_pressed x s) u ≡ f (press_with (rig_in p here) rig_at (bank_count p) m now l s) t) × (x.hushed ≡ n)
 
 -- the same where the press may select the bank `there`
-abbrev pub PressesThere : (Press → Act Pressed) → List ℕ → Current → Current → Lamps → ℕ → List ℕ → Level → Float → Talk → declared.Pressed → Talk → Type 0
+abbrev pub PressesThere : (Press → Act Pressed) → List ℕ → Current → Current → Lamps → ℕ → List ℕ → Option Float → Float → Talk → declared.Pressed → Talk → Type 0
 PressesThere f p here there l n ts home now t x u =
     ((rig_at : ℕ → Rig) (m : Moves) (s : List Hushed) → targets_of s ≡ ts → rig_at here.bank ≡ rig_in p here → rig_at there.bank ≡ rig_in p there →
     IsHome home (rig_in p there) l m → got (seen_pressed x s) u ≡ f (press_with (rig_in p here) rig_at (bank_count p) m now l s) t) × (x.hushed ≡ n)
 
 -- any press; k is what is silenced after it
-abbrev pub Presses : (Press → Act Pressed) → List ℕ → Current → Current → Lamps → List Hushed → Level → Float → Talk → declared.Pressed → List Hushed → Talk → Type 0
+abbrev pub Presses : (Press → Act Pressed) → List ℕ → Current → Current → Lamps → List Hushed → Option Float → Float → Talk → declared.Pressed → List Hushed → Talk → Type 0
 Presses f p here there l s home now t x k u =
     (rig_at : ℕ → Rig) (m : Moves) → rig_at here.bank ≡ rig_in p here → rig_at there.bank ≡ rig_in p there → IsHome home (rig_in p there) l m →
     got (seen_pressed x k) u ≡ f (press_with (rig_in p here) rig_at (bank_count p) m now l s) t

@@ -1,5 +1,5 @@
 -- Which event it is. Definitions only.
-use Rattle.std.specs.Prelude.{ℕ, Bool, true, false, not, List, []}
+use Rattle.std.specs.Prelude.{ℕ, Bool, true, false, not, List, [], None, Option, Some}
 use Rattle.protocol.specs.declared.Button.{Button}
 use Rattle.protocol.specs.declared.Event.TheVariants as event
 use Rattle.session.specs.declared.Lamps.{Lamps}
@@ -9,8 +9,6 @@ use Rattle.rig.specs.declared.Current.{Current}
 use Rattle.bridge.specs.Presses.{bank_after, added_of}
 use Rattle.bridge.specs.declared.which.Hand.{Hand}
 use Rattle.bridge.specs.declared.which.Hand.TheVariants as hand
-use Rattle.bridge.specs.declared.which.Press.{Press}
-use Rattle.bridge.specs.declared.which.Press.TheVariants as press
 
 -- what a hand moved, if it was a fader or an encoder
 abbrev pub hand_of : Input → Hand
@@ -23,20 +21,20 @@ hand_of input.PushState = hand.None
 hand_of input.PushTransport = hand.None
 hand_of input.FlashBank = hand.None
 
-abbrev pub press_if : Bool → Button → Press
-press_if true b = press.Of b
-press_if false b = press.None
+abbrev pub press_if : Bool → Button → Option Button
+press_if true b = Some b
+press_if false b = None
 
 -- the button that the event presses, if it does
-abbrev pub press_in : Input → Press
-press_in (input.Midi (event.Fader ch value)) = press.None
-press_in (input.Midi (event.Encoder ch delta)) = press.None
+abbrev pub press_in : Input → Option Button
+press_in (input.Midi (event.Fader ch value)) = None
+press_in (input.Midi (event.Encoder ch delta)) = None
 press_in (input.Midi (event.Button b)) = press_if b.pressed b
-press_in (input.Midi event.Other) = press.None
-press_in input.Tick = press.None
-press_in input.PushState = press.None
-press_in input.PushTransport = press.None
-press_in input.FlashBank = press.None
+press_in (input.Midi event.Other) = None
+press_in input.Tick = None
+press_in input.PushState = None
+press_in input.PushTransport = None
+press_in input.FlashBank = None
 
 abbrev pub is_tick : Input → Bool
 is_tick (input.Midi e) = false
@@ -68,10 +66,10 @@ runs input.PushTransport = true
 runs input.FlashBank = true
 
 -- the bank that is current after a press, and the targets that it adds to those silenced
-abbrev pub bank_by : List ℕ → ℕ → Press → ℕ
-bank_by p bank (press.Of b) = bank_after p bank b.note
-bank_by p bank press.None = bank
+abbrev pub bank_by : List ℕ → ℕ → Option Button → ℕ
+bank_by p bank (Some b) = bank_after p bank b.note
+bank_by p bank None = bank
 
-abbrev pub adds_by : List ℕ → Current → Lamps → Press → List ℕ → List ℕ
-adds_by p here l (press.Of b) ts = added_of p here l b.note ts
-adds_by p here l press.None ts = []
+abbrev pub adds_by : List ℕ → Current → Lamps → Option Button → List ℕ → List ℕ
+adds_by p here l (Some b) ts = added_of p here l b.note ts
+adds_by p here l None ts = []

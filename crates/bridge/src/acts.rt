@@ -13,7 +13,7 @@ ghost use Rattle.bridge.specs.Acts.{Leaves, pressing, Runs, RunsStill, Pushes, T
 
 use crate::buttons;
 use after::Left;
-use drivers::{Io, Level};
+use drivers::Io;
 use event::{Input, Timed};
 use protocol::{Button, Event};
 use rig::Current;
@@ -46,7 +46,7 @@ fn on_button(
     targets: &mut [u16; 256],
     levels: &mut [f64; 256],
     hushed: usize,
-    home: Level,
+    home: Option<f64>,
     time: f64,
     b: Button,
 ) -> Left
@@ -93,7 +93,7 @@ fn on_midi(
     targets: &mut [u16; 256],
     levels: &mut [f64; 256],
     hushed: usize,
-    home: Level,
+    home: Option<f64>,
     time: f64,
     event: Event,
 ) -> Left
@@ -139,7 +139,7 @@ fn on_tick(
     lamps: Lamps,
     targets: &[u16; 256],
     hushed: usize,
-    home: Level,
+    home: Option<f64>,
     time: f64,
 ) -> Left
     requires profile_value { verdict profile.now ≡ 0 }
@@ -182,7 +182,7 @@ fn on_flash_bank(
     lamps: Lamps,
     targets: &[u16; 256],
     hushed: usize,
-    home: Level,
+    home: Option<f64>,
     time: f64,
 ) -> Left
     requires count_bound { here.strips.count ≤ 8 }
@@ -259,7 +259,7 @@ pub fn run(
     targets: &mut [u16; 256],
     levels: &mut [f64; 256],
     hushed: usize,
-    home: Level,
+    home: Option<f64>,
     e: Timed,
 ) -> Left
     requires profile_value { verdict profile.now ≡ 0 }

@@ -13,8 +13,8 @@ ghost use Rattle.rig.specs.Seen.{rig_in};
 ghost use Rattle.bridge.specs.Presses.{bank_after, selected_by, PressesHere, PressesThere, other_of, is_other, Hushes, Presses, adds_at, added_of};
 
 use banks::Selected;
-use drivers::{Io, Level};
-use protocol::{Button, Found};
+use drivers::Io;
+use protocol::Button;
 use rig::Current;
 use scenes::Paged;
 use session::Lamps;
@@ -85,7 +85,7 @@ fn rec(
     lamps: Lamps,
     targets: &[u16; 256],
     hushed: usize,
-    home: Level,
+    home: Option<f64>,
     time: f64,
     channel: u8,
 ) -> Pressed
@@ -131,7 +131,7 @@ fn select(
     lamps: Lamps,
     targets: &[u16; 256],
     hushed: usize,
-    home: Level,
+    home: Option<f64>,
     time: f64,
     channel: u8,
 ) -> Pressed
@@ -165,7 +165,7 @@ fn page(
     lamps: Lamps,
     targets: &[u16; 256],
     hushed: usize,
-    home: Level,
+    home: Option<f64>,
     time: f64,
     right: bool,
 ) -> Pressed
@@ -193,7 +193,7 @@ fn walk(
     lamps: Lamps,
     targets: &[u16; 256],
     hushed: usize,
-    home: Level,
+    home: Option<f64>,
     time: f64,
     right: bool,
 ) -> Pressed
@@ -259,8 +259,8 @@ fn channel_of(b: Button) -> u8
     ensures upper_bound { result < 8 }
 {
     match b.channel() {
-        Found::At(c) => c,
-        Found::Nothing => 0,
+        Some(c) => c,
+        None => 0,
     }
 }
 
@@ -298,7 +298,7 @@ fn other_button(
     lamps: Lamps,
     targets: &[u16; 256],
     hushed: usize,
-    home: Level,
+    home: Option<f64>,
     time: f64,
     b: Button,
 ) -> Pressed
@@ -342,7 +342,7 @@ pub fn button(
     targets: &mut [u16; 256],
     levels: &mut [f64; 256],
     hushed: usize,
-    home: Level,
+    home: Option<f64>,
     time: f64,
     b: Button,
 ) -> Pressed

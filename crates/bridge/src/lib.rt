@@ -27,8 +27,8 @@ ghost use Rattle.bridge.specs.Bridge.{Delivers, IsCurrent, is_idle, drain_if, Mo
 
 use after::{Left, Setting};
 use delivery::{End, Outcome};
-use drivers::{Io, Level};
-use event::{Read, Timed};
+use drivers::Io;
+use event::Timed;
 use rig::Current;
 use session::{Flash, Lamps, Line, Live, Moves, Session, Silenced, Turns};
 use which::Hand;
@@ -182,7 +182,7 @@ fn on_encoder(session: Session, profile: &[u8], channel: u8, delta: i32) -> Step
     requires delta_value { in_range delta ≡ true }
     ensures { TurnsAs profile.now session channel delta result }
 {
-    let base::Place::At(at) = lookup::encoder_record(profile, session.bank, channel + 1) else {
+    let Some(at) = lookup::encoder_record(profile, session.bank, channel + 1) else {
         let o = nothing();
         return stays(o, session);
     };
@@ -254,7 +254,7 @@ fn ticked(
     targets: &mut [u16; 256],
     levels: &mut [f64; 256],
     hushed: usize,
-    home: Level,
+    home: Option<f64>,
     e: Timed,
 ) -> Left
     requires profile_value { verdict profile.now ≡ 0 }
@@ -297,7 +297,7 @@ fn act(
     targets: &mut [u16; 256],
     levels: &mut [f64; 256],
     hushed: usize,
-    home: Level,
+    home: Option<f64>,
     e: Timed,
 ) -> Left
     requires profile_value { verdict profile.now ≡ 0 }
@@ -330,7 +330,7 @@ fn act(
 }
 
 // Where the fader of the flash's row was last seen in a bank. Where no flash plays, its row may be anything.
-fn home_of(moves: Moves, flash: Flash, bank: u8) -> Level
+fn home_of(moves: Moves, flash: Flash, bank: u8) -> Option<f64>
     requires { bank < 16 }
     ensures { result ≡ last_move (bank * 16 + flash.row % 16) moves }
 {
@@ -563,7 +563,7 @@ pub fn step(
         return stays(Outcome::Refused(9), session);
     }
     match event::read_event(event) {
-        Read::Known(e) => on_event(session, profile, e, answers, messages, calls),
-        Read::Unknown => stays(Outcome::Refused(10), session),
+        Some(e) => on_event(session, profile, e, answers, messages, calls),
+        None => stays(Outcome::Refused(10), session),
     }
 }

@@ -37,25 +37,19 @@ pub fn hand_of(what: Input) -> Hand
 }
 
 // The button that the event presses, if it does.
-#[derive(Clone, Copy)]
-pub enum Press {
-    Of(Button),
-    None,
-}
-
-pub fn press_of(what: Input) -> Press
+pub fn press_of(what: Input) -> Option<Button>
     ensures { result ≡ press_in what }
 {
     let Input::Midi(m) = what else {
-        return Press::None;
+        return None;
     };
     let Event::Button(b) = m else {
-        return Press::None;
+        return None;
     };
     if b.pressed {
-        return Press::Of(b);
+        return Some(b);
     }
-    Press::None
+    None
 }
 
 pub fn is_tick(what: Input) -> bool
@@ -92,13 +86,13 @@ pub fn is_nothing(what: Input) -> bool
 }
 
 // The bank that is the current one after the event.
-pub fn bank_after(profile: &[u8], bank: u8, press: Press) -> u8
+pub fn bank_after(profile: &[u8], bank: u8, press: Option<Button>) -> u8
     requires { bank < 16 }
     ensures { result ≡ bank_by profile.now bank press }
 {
     match press {
-        Press::Of(b) => buttons::bank_after(profile, bank, b),
-        Press::None => bank,
+        Some(b) => buttons::bank_after(profile, bank, b),
+        None => bank,
     }
 }
 
@@ -109,14 +103,14 @@ pub fn added_by(
     lamps: Lamps,
     targets: &[u16; 256],
     hushed: usize,
-    press: Press,
+    press: Option<Button>,
 ) -> usize
     requires count_bound { here.strips.count ≤ 8 }
     requires hushed_bound { hushed ≤ 256 }
     ensures { result ≡ length (adds_by profile.now here lamps press (take hushed targets.now)) }
 {
     match press {
-        Press::Of(b) => buttons::added_by(profile, here, lamps, targets, hushed, b),
-        Press::None => 0,
+        Some(b) => buttons::added_by(profile, here, lamps, targets, hushed, b),
+        None => 0,
     }
 }

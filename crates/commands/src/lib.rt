@@ -8,13 +8,13 @@ ghost use Rattle.definition.specs.Buttons.{default_button, run_bound, run_comman
 ghost use Rattle.rig.specs.Seen.{rig_in};
 
 use drivers::Io;
-use lookup::{Bound, Command};
+use lookup::Command;
 use rig::Current;
 
 #[derive(Clone, Copy)]
 struct Offered {
     io: Io,
-    bound: Bound,
+    bound: Option<Command>,
 }
 
 // What the bank's driver says this button does, if the profile did not say. The driver is opened for it; its buttons are no call.
@@ -34,7 +34,7 @@ fn default_button(
     if name == 65535 {
         return Offered {
             io: io,
-            bound: Bound::Nothing,
+            bound: None,
         };
     }
     let driver = name as u8;
@@ -42,10 +42,7 @@ fn default_button(
     let u = t.io;
     let command = lookup::default_command(profile, driver, kind);
     if !t.ok | (command == 65535) {
-        return Offered {
-            io: u,
-            bound: Bound::Nothing,
-        };
+        return Offered { io: u, bound: None };
     }
     let target = rig::here::first_target(profile, here, driver);
     let c = Command {
@@ -55,7 +52,7 @@ fn default_button(
     };
     Offered {
         io: u,
-        bound: Bound::Run(c),
+        bound: Some(c),
     }
 }
 
@@ -64,16 +61,16 @@ fn run_bound(
     calls: &mut [u8; 5392],
     messages: &mut [u8; 306],
     io: Io,
-    bound: Bound,
+    bound: Option<Command>,
 ) -> Io
     ensures { shown answers.now result calls.new messages.new ≡ run_bound bound (shown answers.now io calls.old messages.old) }
 {
     match bound {
-        Bound::Run(c) => {
+        Some(c) => {
             let t = drivers::command(answers, calls, messages, io, c.driver, c.target, c.command);
             t.io
         }
-        Bound::Nothing => io,
+        None => io,
     }
 }
 
@@ -91,7 +88,7 @@ pub fn run_command(
     ensures { shown answers.now result calls.new messages.new ≡ run_command (rig_in profile.now here) kind (shown answers.now io calls.old messages.old) }
 {
     let bound = lookup::transport_in_reach(profile, here.bank, kind);
-    let Bound::Nothing = bound else {
+    let None = bound else {
         return run_bound(answers, calls, messages, io, bound);
     };
     let o = default_button(answers, calls, messages, io, profile, here, kind);
@@ -108,12 +105,12 @@ pub struct Loads {
     pub scene: bool,
 }
 
-fn is_scene(bound: Bound) -> bool
+fn is_scene(bound: Option<Command>) -> bool
     ensures { result ≡ is_scene bound }
 {
     match bound {
-        Bound::Run(c) => c.command == 1,
-        Bound::Nothing => false,
+        Some(c) => c.command == 1,
+        None => false,
     }
 }
 

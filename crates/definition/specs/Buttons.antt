@@ -1,13 +1,8 @@
 -- What a pressed button does: `button`, `default_button`, `run_command`. Definitions only.
-use Rattle.std.specs.Prelude.{ℕ, ◌+◌, List, [], Bool, true, false, ◌||◌, eqb, Float}
-use Rattle.std.proofs.Math.Option.{Option, none, some}
+use Rattle.std.specs.Prelude.{ℕ, ◌+◌, List, [], Bool, true, false, ◌||◌, eqb, Float, None, Option, Some}
 use Rattle.base.specs.Choice.{pick}
 use Rattle.protocol.specs.Protocol.{kind_of, channel_of}
-use Rattle.protocol.specs.declared.Found as channels
-use Rattle.protocol.specs.declared.Found.TheVariants as channel
 use Rattle.lookup.specs.Lookup.{transport_of, before}
-use Rattle.lookup.specs.declared.Bound.{Bound}
-use Rattle.lookup.specs.declared.Bound.TheVariants as bound
 use Rattle.drivers.specs.Talk.{Talk, Got, Act, got, next, open_for, command_of}
 use Rattle.session.specs.Session.{Hushed, targets_of}
 use Rattle.session.specs.declared.Lamps.{Lamps}
@@ -16,6 +11,7 @@ use Rattle.definition.specs.Rig.{Rig, Here, bank_driver, first_target}
 use Rattle.definition.specs.Banks.{Selected, select_bank, step_bank}
 use Rattle.definition.specs.Scenes.{Paged, step_scene, scene}
 use Rattle.definition.specs.Muting.{mute, solo, added_by_solo, added_by_mute}
+use Rattle.lookup.specs.declared.Command.{Command}
 
 -- what a press leaves. Where a bank was selected or a scene loaded, `moved`, "clear all marks", and the live bank is due
 pub record Pressed : Type 0 where
@@ -31,36 +27,36 @@ pressed b l s a c = record { bank = b; lamps = l; silenced = s; moved = a; saved
 -- ── commands ──
 
 abbrev pub or_absent : Option ℕ → ℕ
-or_absent none = 65535
-or_absent (some t) = t
+or_absent None = 65535
+or_absent (Some t) = t
 
 -- the default button's command, with the target of the bank's first fader on the driver
-abbrev pub offered : Bool → Here → ℕ → ℕ → Bound
-offered true h driver command = bound.Nothing
-offered false h driver command = bound.Run (record { driver = driver; target = or_absent (first_target h driver 16); command = command })
+abbrev pub offered : Bool → Here → ℕ → ℕ → Option Command
+offered true h driver command = None
+offered false h driver command = Some (record { driver = driver; target = or_absent (first_target h driver 16); command = command })
 
-abbrev pub offered_if : Bool → Rig → ℕ → ℕ → Act Bound
+abbrev pub offered_if : Bool → Rig → ℕ → ℕ → Act (Option Command)
 offered_if true r driver kind t = got (offered (eqb (r.button driver kind) 65535) r.here driver (r.button driver kind)) t
-offered_if false r driver kind t = got bound.Nothing t
+offered_if false r driver kind t = got None t
 
-abbrev pub default_of : Bool → Rig → ℕ → ℕ → Act Bound
-default_of true r driver kind t = got bound.Nothing t
+abbrev pub default_of : Bool → Rig → ℕ → ℕ → Act (Option Command)
+default_of true r driver kind t = got None t
 default_of false r driver kind t = next (open_for driver 0 t) (λ ok. offered_if ok r driver kind)
 
 -- `default_button`: what the bank's driver says this button does; the driver is opened for it, and its buttons are no call
-unfoldable pub default_button : Rig → ℕ → Act Bound
+unfoldable pub default_button : Rig → ℕ → Act (Option Command)
 default_button r kind = default_of (eqb (bank_driver r.here) 65535) r (bank_driver r.here) kind
 
-abbrev pub run_bound : Bound → Talk → Talk
-run_bound (bound.Run c) t = (command_of c.driver c.target c.command t).talk
-run_bound bound.Nothing t = t
+abbrev pub run_bound : Option Command → Talk → Talk
+run_bound (Some c) t = (command_of c.driver c.target c.command t).talk
+run_bound None t = t
 
-abbrev pub run_offered : Got Bound → Talk
+abbrev pub run_offered : Got (Option Command) → Talk
 run_offered r = run_bound r.value r.talk
 
-abbrev pub run_else : Bound → Rig → ℕ → Talk → Talk
-run_else (bound.Run c) r kind t = run_bound (bound.Run c) t
-run_else bound.Nothing r kind t = run_offered (default_button r kind t)
+abbrev pub run_else : Option Command → Rig → ℕ → Talk → Talk
+run_else (Some c) r kind t = run_bound (Some c) t
+run_else None r kind t = run_offered (default_button r kind t)
 
 -- the last arm of `button`: the globals' binding, the bank's, or what the bank's driver does with the button
 unfoldable pub run_command : Rig → ℕ → Talk → Talk
@@ -69,9 +65,9 @@ run_command r kind t =
 
 -- ── rec ──
 
-abbrev pub is_scene : Bound → Bool
-is_scene (bound.Run c) = eqb c.command 1
-is_scene bound.Nothing = false
+abbrev pub is_scene : Option Command → Bool
+is_scene (Some c) = eqb c.command 1
+is_scene None = false
 
 abbrev pub rec_if : Bool → Rig → Act Bool
 rec_if true r t = next (default_button r 0 t) (λ b. got (is_scene b))
@@ -136,9 +132,9 @@ abbrev pub solo_as : ℕ → Press → Act Pressed
 solo_as n p t = next (solo p.rig n p.lamps p.silenced t) (λ x. got (pressed (bank_of p) x.lamps x.silenced false false))
 
 -- the channel of a channel's button; another's counts as 0
-abbrev pub or_first : channels.Found → ℕ
-or_first (channel.At c) = c
-or_first channel.Nothing = 0
+abbrev pub or_first : Option ℕ → ℕ
+or_first (Some c) = c
+or_first None = 0
 
 -- by kind: 7 and 6 arrows right and left, 5 and 9 bank right and arrow down, 4 and 8 bank left and arrow up, 2 mute, 1 solo, 0 rec, 3 select
 unfoldable pub press_of : ℕ → ℕ → Press → Act Pressed

@@ -1,17 +1,12 @@
 -- Faders and encoders: a move is held until it meets the device's level, a turn adds to a sum, and the drain hands both over. Definitions only.
-use Rattle.std.specs.Prelude.{ℕ, zero, suc, ◌+◌, ◌*◌, List, [], ◌∷◌, Bool, true, false, ◌&&◌, not, leb, length, ℤ, pos, negsuc, ◌+ℤ◌, Float}
-use Rattle.std.proofs.Math.Option.{Option, none, some}
+use Rattle.std.specs.Prelude.{ℕ, zero, suc, ◌+◌, ◌*◌, List, [], ◌∷◌, Bool, true, false, ◌&&◌, not, leb, length, ℤ, pos, negsuc, ◌+ℤ◌, Float, None, Option, Some}
 use Rattle.std.specs.Int.Signed.{le_z}
 use Rattle.base.specs.Choice.{pick}
 use Rattle.base.specs.Keyed.{find}
 use Rattle.float.specs.Leaf.{far_of, crossed_of, nudge}
 use Rattle.protocol.specs.Protocol.{sent_to}
 use Rattle.lookup.specs.declared.Destination.{Destination}
-use Rattle.lookup.specs.declared.Found.{Found}
-use Rattle.lookup.specs.declared.Found.TheVariants as found
 use Rattle.drivers.specs.Talk.{Talk, Got, Act, got, ◌>>=◌, send}
-use Rattle.drivers.specs.declared.Level.{Level}
-use Rattle.drivers.specs.declared.Level.TheVariants.{At, Unknown}
 use Rattle.session.specs.Session.{is_marked, mark_at, last_move, moved_to, place_move, Turn, is_dest, turn}
 use Rattle.session.specs.declared.Marks.{Marks}
 use Rattle.session.specs.declared.Moves.{Moves}
@@ -32,14 +27,14 @@ desk a b c d = record { marks = a; moves = b; line = c; turns = d }
 -- ── a move ──
 
 -- the last move there, if any, gives (p - c)(value - c) < 0
-abbrev pub crossed_from : Level → Float → Float → Bool
-crossed_from (At p) c value = crossed_of p c value
-crossed_from Unknown c value = false
+abbrev pub crossed_from : Option Float → Float → Float → Bool
+crossed_from (Some p) c value = crossed_of p c value
+crossed_from None c value = false
 
 -- "the device reads c, |value - c| > 0.02, and the last move p there, if any, does not give (p - c)(value - c) < 0": gear that cannot answer holds no fader
-abbrev pub is_held : Level → Level → Float → Bool
-is_held (At c) last value = far_of value c && not (crossed_from last c value)
-is_held Unknown last value = false
+abbrev pub is_held : Option Float → Option Float → Float → Bool
+is_held (Some c) last value = far_of value c && not (crossed_from last c value)
+is_held None last value = false
 
 abbrev pub key_of : Rig → ℕ → ℕ
 key_of r ch = r.here.bank * 16 + ch
@@ -61,9 +56,9 @@ abbrev pub fader_if : Bool → Destination → ℕ → ℕ → Float → Desk �
 fader_if true e k ch value d = read e >>= λ c. got (moved_if (is_held c (last_move k d.moves) value) k ch value d)
 fader_if false e k ch value d = got (take_move k ch value d)
 
-abbrev pub fader_to : Found → ℕ → ℕ → Float → Desk → Act Desk
-fader_to (found.To e) k ch value d = fader_if (e.takeover && not (is_marked k d.marks)) e k ch value d
-fader_to found.Nothing k ch value d = got d
+abbrev pub fader_to : Option Destination → ℕ → ℕ → Float → Desk → Act Desk
+fader_to (Some e) k ch value d = fader_if (e.takeover && not (is_marked k d.marks)) e k ch value d
+fader_to None k ch value d = got d
 
 -- `fader`: a move without a destination changes nothing
 unfoldable pub fader : Rig → ℕ → Float → Desk → Act Desk
@@ -77,20 +72,20 @@ in_range z = le_z (negsuc 999999) z && le_z z (pos 1000000)
 
 -- why a turn is declined: 12, 13, or 0
 abbrev pub declined_by : Option Turn → ℤ → List Turn → ℕ
-declined_by (some e) delta l = pick (in_range (e.sum +ℤ delta)) 0 12
-declined_by none delta l = pick (leb 136 (length l)) 13 0
+declined_by (Some e) delta l = pick (in_range (e.sum +ℤ delta)) 0 12
+declined_by None delta l = pick (leb 136 (length l)) 13 0
 
-abbrev pub turn_to : Found → ℤ → List Turn → List Turn
-turn_to (found.To e) delta l = turn e delta l
-turn_to found.Nothing delta l = l
+abbrev pub turn_to : Option Destination → ℤ → List Turn → List Turn
+turn_to (Some e) delta l = turn e delta l
+turn_to None delta l = l
 
 -- `encoder`: "A turn adds to its destination's sum, if it has one."
 unfoldable pub encoder : Rig → ℕ → ℤ → Desk → Desk
 encoder r ch delta d = desk d.marks d.moves d.line (turn_to (encoder_dest r (ch + 1)) delta d.turns)
 
-abbrev pub refusal_to : Found → ℤ → List Turn → ℕ
-refusal_to (found.To e) delta l = declined_by (find (is_dest e) l) delta l
-refusal_to found.Nothing delta l = 0
+abbrev pub refusal_to : Option Destination → ℤ → List Turn → ℕ
+refusal_to (Some e) delta l = declined_by (find (is_dest e) l) delta l
+refusal_to None delta l = 0
 
 -- "Each turn .. declined" by 12 or 13, 0 if it is not
 unfoldable pub turn_refusal : Rig → ℕ → ℤ → List Turn → ℕ
@@ -98,11 +93,11 @@ turn_refusal r ch delta l = refusal_to (encoder_dest r (ch + 1)) delta l
 
 -- ── the drain ──
 
-abbrev pub nudge_from : Level → Destination → ℤ → Talk → Talk
-nudge_from (At c) e sum t = (write e (nudge c sum) t).talk
-nudge_from Unknown e sum t = t
+abbrev pub nudge_from : Option Float → Destination → ℤ → Talk → Talk
+nudge_from (Some c) e sum t = (write e (nudge c sum) t).talk
+nudge_from None e sum t = t
 
-abbrev pub nudged : Destination → ℤ → Got Level → Talk
+abbrev pub nudged : Destination → ℤ → Got (Option Float) → Talk
 nudged e sum r = nudge_from r.value e sum r.talk
 
 abbrev pub is_zero : ℤ → Bool
@@ -132,9 +127,9 @@ abbrev pub aligned : Bool → Move → Got Bool → Talk
 aligned positions m r = align_if (r.value && positions) m.channel m.level r.talk
 
 -- "a move whose channel now has no destination is dropped, any other tried there"
-abbrev pub write_move : Bool → Found → Move → Talk → Talk
-write_move positions (found.To e) m t = aligned positions m (write e m.level t)
-write_move positions found.Nothing m t = t
+abbrev pub write_move : Bool → Option Destination → Move → Talk → Talk
+write_move positions (Some e) m t = aligned positions m (write e m.level t)
+write_move positions None m t = t
 
 -- "in line order"
 unfoldable pub writes : Rig → List Move → Talk → Talk

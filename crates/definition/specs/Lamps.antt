@@ -1,20 +1,13 @@
 -- Everything the surface can show, positions and lamps: `push_state`, `is_muted`, `push_transport`. Definitions only.
-use Rattle.std.specs.Prelude.{ℕ, zero, suc, ◌+◌, List, [], ◌∷◌, ◌++◌, Bool, true, false, ◌&&◌, eqb}
-use Rattle.std.proofs.Math.Option.{Option, none, some}
+use Rattle.std.specs.Prelude.{ℕ, zero, suc, ◌+◌, List, [], ◌∷◌, ◌++◌, Bool, true, false, ◌&&◌, eqb, None, Option, Some, Float}
 use Rattle.base.specs.Keyed.{find}
 use Rattle.protocol.specs.Protocol.{sent_to, transport_note}
 use Rattle.protocol.specs.declared.Out.TheVariants.{Led}
-use Rattle.protocol.specs.declared.Found as notes
-use Rattle.protocol.specs.declared.Found.TheVariants as note
 use Rattle.lookup.specs.Lookup.{merged}
 use Rattle.lookup.specs.declared.Destination.{Destination}
 use Rattle.lookup.specs.declared.Command.{Command}
 use Rattle.lookup.specs.declared.Entry.{Entry}
-use Rattle.lookup.specs.declared.Found.{Found}
-use Rattle.lookup.specs.declared.Found.TheVariants as found
 use Rattle.drivers.specs.Talk.{Talk, Got, Act, got, next, ◌>>=◌, send, playing_of}
-use Rattle.drivers.specs.declared.Level.{Level}
-use Rattle.drivers.specs.declared.Level.TheVariants.{At, Unknown}
 use Rattle.session.specs.Session.{is_hushed}
 use Rattle.session.specs.declared.Lamps.{Lamps}
 use Rattle.definition.specs.Rig.{Rig, destination}
@@ -25,32 +18,32 @@ use Rattle.definition.specs.Levels.{read, read_mute, kept_by, has_mute}
 -- Which faders are muted without a mute parameter is told by the targets that are silenced; their levels do not matter to a lamp.
 
 -- a position for a fader with a readable value only: nothing would ever align with another's
-abbrev pub send_level : ℕ → Level → Talk → Talk
-send_level ch (At x) t = send (sent_to ch x) t
-send_level ch Unknown t = t
+abbrev pub send_level : ℕ → Option Float → Talk → Talk
+send_level ch (Some x) t = send (sent_to ch x) t
+send_level ch None t = t
 
-abbrev pub read_and_send : ℕ → Got Level → Talk
+abbrev pub read_and_send : ℕ → Got (Option Float) → Talk
 read_and_send ch r = send_level ch r.value r.talk
 
-abbrev pub position_for : Bool → ℕ → Found → Talk → Talk
-position_for true ch (found.To d) t = read_and_send ch (read d t)
-position_for true ch found.Nothing t = t
+abbrev pub position_for : Bool → ℕ → Option Destination → Talk → Talk
+position_for true ch (Some d) t = read_and_send ch (read d t)
+position_for true ch None t = t
 position_for false ch to t = t
 
 unfoldable pub push_position : Rig → ℕ → Talk → Talk
 push_position r ch t = position_for r.positions ch (destination r (ch + 1)) t
 
 abbrev pub or_false : Option Bool → Bool
-or_false none = false
-or_false (some b) = b
+or_false None = false
+or_false (Some b) = b
 
 abbrev pub muted_if : Bool → Destination → List ℕ → Act Bool
 muted_if false d s = got (is_hushed (kept_by d) s)
 muted_if true d s = read_mute d >>= λ m. got (or_false m)
 
-abbrev pub muted_to : Found → List ℕ → Act Bool
-muted_to (found.To d) s = muted_if (has_mute d) d s
-muted_to found.Nothing s = got false
+abbrev pub muted_to : Option Destination → List ℕ → Act Bool
+muted_to (Some d) s = muted_if (has_mute d) d s
+muted_to None s = got false
 
 -- `is_muted`: one without a destination, or whose mute cannot be read, is not
 unfoldable pub is_muted : Rig → ℕ → List ℕ → Act Bool
@@ -95,14 +88,14 @@ met c b = record { driver = c.driver; target = c.target; there = b }
 
 -- one ask for each player, not for each button: "The scan of known players ends at the first equal driver and target"
 abbrev pub meet_if : Option Player → Command → List Player → ℕ → Talk → Got (List Player)
-meet_if (some p) c known note t = got known (send (Led note p.there) t)
-meet_if none c known note t =
+meet_if (Some p) c known note t = got known (send (Led note p.there) t)
+meet_if None c known note t =
     next (playing_of c.driver c.target t) (λ b u. got (known ++ (met c b ∷ [])) (send (Led note b) u))
 
 -- a kind without a lamp asks nobody
-abbrev pub lamp_for : notes.Found → Command → List Player → Act (List Player)
-lamp_for (note.At n) c known t = meet_if (find (is_player c) known) c known n t
-lamp_for note.Nothing c known t = got known t
+abbrev pub lamp_for : Option ℕ → Command → List Player → Act (List Player)
+lamp_for (Some n) c known t = meet_if (find (is_player c) known) c known n t
+lamp_for None c known t = got known t
 
 abbrev pub onward : {A : Type 0} → (A → Talk → Talk) → Got A → Talk
 onward f r = f r.value r.talk

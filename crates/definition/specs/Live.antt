@@ -1,6 +1,5 @@
 -- A live bank's faders, asked of its driver right after a change and then once a second: `refresh_live`. Definitions only.
-use Rattle.std.specs.Prelude.{ℕ, List, Bool, true, false, ◌||◌, eqb, Float}
-use Rattle.std.proofs.Math.Option.{Option, none, some}
+use Rattle.std.specs.Prelude.{ℕ, List, Bool, true, false, ◌||◌, eqb, Float, None, Option, Some}
 use Rattle.std.specs.Float.{binary64}
 use Rattle.std.specs.Float.Ieee.{sub, le}
 use Rattle.float.specs.Leaf.{f1}
@@ -22,8 +21,8 @@ refreshed l b = record { strips = l; changed = b }
 
 -- the first list always counts as a change, also when it was refused
 abbrev pub same_as : Option (List Strip) → List Strip → Bool
-same_as none l = false
-same_as (some k) l = same_strips k l
+same_as None l = false
+same_as (Some k) l = same_strips k l
 
 abbrev pub change_if : Bool → List Strip → Rig → Lamps → List ℕ → Act Refreshed
 change_if true l r x s t = got (refreshed r.here.strips false) t

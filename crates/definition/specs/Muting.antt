@@ -1,13 +1,10 @@
 -- Mute and solo, on gear with and without a mute of its own: `mute`, `solo`, `set_mute`, and number 11. Definitions only.
-use Rattle.std.specs.Prelude.{ℕ, zero, suc, ◌+◌, List, [], Bool, true, false, not, eqb}
+use Rattle.std.specs.Prelude.{ℕ, zero, suc, ◌+◌, List, [], Bool, true, false, not, eqb, None, Option, Some}
 use Rattle.std.specs.Bool.{beq}
-use Rattle.std.proofs.Math.Option.{Option, none, some}
 use Rattle.base.specs.Choice.{pick}
 use Rattle.base.specs.Keyed.{change}
 use Rattle.float.specs.Leaf.{f0}
 use Rattle.lookup.specs.declared.Destination.{Destination}
-use Rattle.lookup.specs.declared.Found.{Found}
-use Rattle.lookup.specs.declared.Found.TheVariants as found
 use Rattle.drivers.specs.Talk.{Talk, Got, Act, got, next, ◌>>=◌, toggle_of, write_of}
 use Rattle.session.specs.Session.{Hushed, targets_of, is_hushed, hushed_level, hush, unhush, was_muted, note_muted, none_noted, solo_to}
 use Rattle.session.specs.declared.Lamps.{Lamps}
@@ -39,9 +36,9 @@ abbrev pub mute_if : Bool → Destination → List Hushed → Act (List Hushed)
 mute_if true d s t = got s (toggle_of d.driver d.mute t).talk
 mute_if false d s t = mute_level (is_hushed (kept_by d) (targets_of s)) d s t
 
-abbrev pub mute_to : Found → Rig → Lamps → List Hushed → Act (List Hushed)
-mute_to (found.To d) r l s t = next (mute_if (has_mute d) d s t) (λ k u. got k (push_state r l (targets_of k) u))
-mute_to found.Nothing r l s t = got s t
+abbrev pub mute_to : Option Destination → Rig → Lamps → List Hushed → Act (List Hushed)
+mute_to (Some d) r l s t = next (mute_if (has_mute d) d s t) (λ k u. got k (push_state r l (targets_of k) u))
+mute_to None r l s t = got s t
 
 -- `mute`
 unfoldable pub mute : Rig → ℕ → Lamps → List Hushed → Act (List Hushed)
@@ -50,8 +47,8 @@ mute r n l s = mute_to (destination r n) r l s
 -- ── solo ──
 
 abbrev pub toggle_if : Option Bool → Bool → Destination → Talk → Talk
-toggle_if none muted d t = t
-toggle_if (some b) muted d t = pick (beq b muted) t (toggle_of d.driver d.mute t).talk
+toggle_if None muted d t = t
+toggle_if (Some b) muted d t = pick (beq b muted) t (toggle_of d.driver d.mute t).talk
 
 abbrev pub set_after : Bool → Destination → Got (Option Bool) → Talk
 set_after muted d r = toggle_if r.value muted d r.talk
@@ -61,11 +58,11 @@ unfoldable pub set_mute : Destination → Bool → Talk → Talk
 set_mute d muted t = set_after muted d (read_mute d t)
 
 -- the fader's destination, if it is of the group
-abbrev pub in_group : ℕ → Found → Found
-in_group group (found.To d) = pick (eqb d.group group) (found.To d) found.Nothing
-in_group group found.Nothing = found.Nothing
+abbrev pub in_group : ℕ → Option Destination → Option Destination
+in_group group (Some d) = pick (eqb d.group group) (Some d) None
+in_group group None = None
 
-unfoldable pub peer : Rig → ℕ → ℕ → Found
+unfoldable pub peer : Rig → ℕ → ℕ → Option Destination
 peer r group n = in_group group (destination r n)
 
 abbrev pub back_if : Bool → Destination → List Hushed → Act (List Hushed)
@@ -77,22 +74,22 @@ abbrev pub off_if : Bool → Destination → Bool → List Hushed → Act (List 
 off_if true d was s t = got s (set_mute d was t)
 off_if false d was s t = back_if (is_hushed (kept_by d) (targets_of s)) d s t
 
-abbrev pub off_to : Found → Bool → List Hushed → Act (List Hushed)
-off_to (found.To d) was s = off_if (has_mute d) d was s
-off_to found.Nothing was s = got s
+abbrev pub off_to : Option Destination → Bool → List Hushed → Act (List Hushed)
+off_to (Some d) was s = off_if (has_mute d) d was s
+off_to None was s = got s
 
 -- faders 1 to n, by rising number; `of` has the peers among them
-unfoldable pub solo_off : (ℕ → Found) → Lamps → ℕ → List Hushed → Act (List Hushed)
+unfoldable pub solo_off : (ℕ → Option Destination) → Lamps → ℕ → List Hushed → Act (List Hushed)
 solo_off of l zero s t = got s t
 solo_off of l (suc n) s t = next (solo_off of l n s t) (λ k. off_to (of (n + 1)) (was_muted (n + 1) l) k)
 
 -- on: what each peer's mute is before it
-unfoldable pub note_mutes : (ℕ → Found) → List ℕ → ℕ → Lamps → Act Lamps
+unfoldable pub note_mutes : (ℕ → Option Destination) → List ℕ → ℕ → Lamps → Act Lamps
 note_mutes of ts zero l t = got (none_noted l) t
 note_mutes of ts (suc n) l t = next (note_mutes of ts n l t) (λ k u. next (muted_to (of (n + 1)) ts u) (λ b. got (note_muted (n + 1) b k)))
 
 -- a second solo keeps what the first noted
-abbrev pub note_if : Bool → (ℕ → Found) → List ℕ → Lamps → Act Lamps
+abbrev pub note_if : Bool → (ℕ → Option Destination) → List ℕ → Lamps → Act Lamps
 note_if true of ts l t = note_mutes of ts 16 l t
 note_if false of ts l t = got l t
 
@@ -109,12 +106,12 @@ abbrev pub on_if : Bool → Destination → Bool → List Hushed → Act (List H
 on_if true d silence s t = got s (set_mute d silence t)
 on_if false d silence s t = on_level silence d s t
 
-abbrev pub on_to : Found → Bool → List Hushed → Act (List Hushed)
-on_to (found.To d) silence s = on_if (has_mute d) d silence s
-on_to found.Nothing silence s = got s
+abbrev pub on_to : Option Destination → Bool → List Hushed → Act (List Hushed)
+on_to (Some d) silence s = on_if (has_mute d) d silence s
+on_to None silence s = got s
 
 -- every peer but the fader itself is silenced
-unfoldable pub solo_on : (ℕ → Found) → ℕ → ℕ → List Hushed → Act (List Hushed)
+unfoldable pub solo_on : (ℕ → Option Destination) → ℕ → ℕ → List Hushed → Act (List Hushed)
 solo_on of fader zero s t = got s t
 solo_on of fader (suc n) s t = next (solo_on of fader n s t) (λ k. on_to (of (n + 1)) (not (eqb (n + 1) fader)) k)
 
@@ -137,9 +134,9 @@ abbrev pub solo_if : Bool → Rig → ℕ → ℕ → Lamps → List Hushed → 
 solo_if true r group fader l s = turn_off r group l s
 solo_if false r group fader l s = turn_on r group fader l s
 
-abbrev pub solo_with : Found → Rig → ℕ → Lamps → List Hushed → Act Soloed
-solo_with (found.To d) r fader l s t = solo_if (eqb l.soloed fader) r d.group fader l s t
-solo_with found.Nothing r fader l s t = got (record { lamps = l; silenced = s }) t
+abbrev pub solo_with : Option Destination → Rig → ℕ → Lamps → List Hushed → Act Soloed
+solo_with (Some d) r fader l s t = solo_if (eqb l.soloed fader) r d.group fader l s t
+solo_with None r fader l s t = got (record { lamps = l; silenced = s }) t
 
 -- `solo`: only this fader's destination plays, within its own group
 unfoldable pub solo : Rig → ℕ → Lamps → List Hushed → Act Soloed
@@ -155,18 +152,18 @@ abbrev pub add_target : Bool → ℕ → List ℕ → List ℕ → List ℕ
 add_target true target ts l = l
 add_target false target ts l = pick (is_hushed target ts) l (change (is_same target) (λ x. x) target l)
 
-abbrev pub adding : Found → List ℕ → List ℕ → List ℕ
-adding (found.To d) ts l = add_target (has_mute d) (kept_by d) ts l
-adding found.Nothing ts l = l
+abbrev pub adding : Option Destination → List ℕ → List ℕ → List ℕ
+adding (Some d) ts l = add_target (has_mute d) (kept_by d) ts l
+adding None ts l = l
 
 -- the targets that the peers 1 to n of a fader add to those silenced, each once
-unfoldable pub solo_adds : (ℕ → Found) → ℕ → List ℕ → ℕ → List ℕ
+unfoldable pub solo_adds : (ℕ → Option Destination) → ℕ → List ℕ → ℕ → List ℕ
 solo_adds of fader ts zero = []
-solo_adds of fader ts (suc n) = adding (pick (eqb (n + 1) fader) found.Nothing (of (n + 1))) ts (solo_adds of fader ts n)
+solo_adds of fader ts (suc n) = adding (pick (eqb (n + 1) fader) None (of (n + 1))) ts (solo_adds of fader ts n)
 
-abbrev pub adds_to : Found → Rig → ℕ → Lamps → List ℕ → List ℕ
-adds_to (found.To d) r fader l ts = pick (eqb l.soloed fader) [] (solo_adds (peer r d.group) fader ts 16)
-adds_to found.Nothing r fader l ts = []
+abbrev pub adds_to : Option Destination → Rig → ℕ → Lamps → List ℕ → List ℕ
+adds_to (Some d) r fader l ts = pick (eqb l.soloed fader) [] (solo_adds (peer r d.group) fader ts 16)
+adds_to None r fader l ts = []
 
 -- "the distinct others this press adds at any moment"
 unfoldable pub added_by_solo : Rig → ℕ → Lamps → List ℕ → List ℕ

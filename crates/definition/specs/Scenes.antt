@@ -1,13 +1,9 @@
 -- Paging through the scenes of the current device, and loading them: `scene_names`, `step_scene`, `scene_on_device`, `load_scene_at`, `scene`.
 -- Definitions only.
-use Rattle.std.specs.Prelude.{ℕ, ◌+◌, ◌-◌, min, List, [], Bool, true, false, ◌||◌, eqb, leb, ltb, length, get_or, Float}
+use Rattle.std.specs.Prelude.{ℕ, ◌+◌, ◌-◌, min, List, [], Bool, true, false, ◌||◌, eqb, leb, ltb, length, get_or, Float, None, Option, Some}
 use Rattle.base.specs.Choice.{pick}
-use Rattle.base.specs.declared.Place.{Place}
-use Rattle.base.specs.declared.Place.TheVariants as place
 use Rattle.lookup.specs.Lookup.{position}
 use Rattle.drivers.specs.Talk.{Act, got, next, ◌>>=◌, scenes_of, current_of, load_of}
-use Rattle.drivers.specs.declared.Index.{Index}
-use Rattle.drivers.specs.declared.Index.TheVariants as index
 use Rattle.session.specs.Session.{scene_at, scene_to, scene_unknown, solo_to, none_noted, loaded_by}
 use Rattle.session.specs.declared.Lamps.{Lamps}
 use Rattle.session.specs.declared.Moves.{Moves}
@@ -32,19 +28,19 @@ scene_names h = names_if (eqb (length h.part.scenes) 0) h
 -- ── where the device is ──
 
 -- the name at place i of the device's own list, as a place in `names`
-abbrev pub place_of : List ℕ → ℕ → List ℕ → Place
-place_of names i all = pick (ltb i (length all)) (position (get_or all i 65535) names) place.Nothing
+abbrev pub place_of : List ℕ → ℕ → List ℕ → Option ℕ
+place_of names i all = pick (ltb i (length all)) (position (get_or all i 65535) names) None
 
-abbrev pub on_list : Index → ℕ → List ℕ → Act Place
-on_list (index.At i) driver names t = next (scenes_of driver t) (λ l. got (place_of names i l.list))
-on_list index.Nothing driver names t = got place.Nothing t
+abbrev pub on_list : Option ℕ → ℕ → List ℕ → Act (Option ℕ)
+on_list (Some i) driver names t = next (scenes_of driver t) (λ l. got (place_of names i l.list))
+on_list None driver names t = got None t
 
-abbrev pub on_device_if : Bool → ℕ → List ℕ → Act Place
-on_device_if true driver names t = got place.Nothing t
+abbrev pub on_device_if : Bool → ℕ → List ℕ → Act (Option ℕ)
+on_device_if true driver names t = got None t
 on_device_if false driver names t = next (current_of driver t) (λ i. on_list i driver names)
 
 -- `scene_on_device`
-unfoldable pub scene_on_device : Here → List ℕ → Act Place
+unfoldable pub scene_on_device : Here → List ℕ → Act (Option ℕ)
 scene_on_device h names = on_device_if (eqb (device h) 65535) (device h) names
 
 -- ── loading ──
@@ -58,9 +54,9 @@ pub record Paged : Type 0 where
 abbrev pub paged : Lamps → Bool → Bool → Paged
 paged l a b = record { lamps = l; loaded = a; saved = b }
 
-abbrev pub or_same : Place → ℕ → ℕ
-or_same (place.At k) i = k
-or_same place.Nothing i = i
+abbrev pub or_same : Option ℕ → ℕ → ℕ
+or_same (Some k) i = k
+or_same None i = i
 
 abbrev pub load_if : Bool → ℕ → ℕ → ℕ → List ℕ → Act Bool
 load_if true driver name i all t = load_of driver (or_same (position name all) i) t
@@ -105,27 +101,27 @@ pub record Started : Type 0 where
 abbrev pub started : Lamps → Bool → Started
 started l b = record { lamps = l; saved = b }
 
-abbrev pub placed : ℕ → Place → Lamps → Lamps
-placed bank (place.At i) l = scene_to bank i l
-placed bank place.Nothing l = scene_unknown bank l
+abbrev pub placed : ℕ → Option ℕ → Lamps → Lamps
+placed bank (Some i) l = scene_to bank i l
+placed bank None l = scene_unknown bank l
 
-abbrev pub start_if : Place → Here → List ℕ → Lamps → Act Started
-start_if (place.At i) h names l t = got (started l false) t
-start_if place.Nothing h names l t = next (scene_on_device h names t) (λ p. got (started (placed h.bank p l) true))
+abbrev pub start_if : Option ℕ → Here → List ℕ → Lamps → Act Started
+start_if (Some i) h names l t = got (started l false) t
+start_if None h names l t = next (scene_on_device h names t) (λ p. got (started (placed h.bank p l) true))
 
 -- where no position is kept, the device's own is: a scene picked there is the starting point of the next arrow
 unfoldable pub start : Here → List ℕ → Lamps → Act Started
 start h names l = start_if (scene_at h.bank l) h names l
 
 -- one on or one back, "The ends hold"; "either arrow loads scene 0" where no position is known
-abbrev pub next_scene : Bool → Place → ℕ → ℕ
-next_scene right place.Nothing count = 0
-next_scene true (place.At s) count = min (s + 1) (count - 1)
-next_scene false (place.At s) count = min (s - 1) (count - 1)
+abbrev pub next_scene : Bool → Option ℕ → ℕ → ℕ
+next_scene right None count = 0
+next_scene true (Some s) count = min (s + 1) (count - 1)
+next_scene false (Some s) count = min (s - 1) (count - 1)
 
-abbrev pub is_at : Place → ℕ → Bool
-is_at (place.At s) i = eqb s i
-is_at place.Nothing i = false
+abbrev pub is_at : Option ℕ → ℕ → Bool
+is_at (Some s) i = eqb s i
+is_at None i = false
 
 -- the number is shown on the SOLO lamps
 abbrev pub shown_if : Bool → Rig → List ℕ → Moves → Float → ℕ → Lamps → Bool → Act Paged

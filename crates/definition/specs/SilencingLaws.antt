@@ -1,6 +1,6 @@
 -- What number 11 counts: a mute or a solo of which it says that it fits silences at most 256 targets, none twice, at every moment. Assumes nothing.
 use Prim.Native.Nat.{ℕ, zero, suc, ◌+◌, ◌≤◌}
-use Rattle.std.specs.Prelude.{◌≡◌, Bool, not, ltb, length, Float}
+use Rattle.std.specs.Prelude.{◌≡◌, Bool, not, ltb, length, Float, None, Option, Some}
 use Rattle.std.proofs.Math.Path.{refl}
 use Rattle.std.proofs.Common.{sym, ap, ◌∙◌, true≢false}
 use Rattle.std.proofs.Math.Bool.{true, false}
@@ -15,8 +15,6 @@ use Rattle.base.specs.Keyed.{any_of, all_of, change, keep, no_twice}
 use Rattle.base.specs.Pigeon.{left_of_lem, right_of, all-change, no_left, no_right, first_no, rest_no}
 use Rattle.float.specs.Leaf.{f0}
 use Rattle.lookup.specs.declared.Destination.{Destination}
-use Rattle.lookup.specs.declared.Found.{Found}
-use Rattle.lookup.specs.declared.Found.TheVariants as found
 use Rattle.drivers.specs.Talk.{Talk, Act, next}
 use Rattle.session.specs.Session.{Hushed, hushed_at, targets_of, is_hushed, same_target, has_room, is_target, other_target, hush, unhush, was_muted}
 use Rattle.session.specs.SessionLaws.{same_hushed, hush_once, unhush_once}
@@ -176,9 +174,9 @@ held s adds o =
     record { once = o; all = keys_among (λ e. e.target) s (targets_of s ++ adds) (λ x. any-first (λ y. eqb y x) (targets_of s) adds) }
 
 -- a fader's destination without a mute is in m
-abbrev pub Covered : List ℕ → Found → Type 0
-Covered m (found.To d) = has_mute d ≡ false → among m (kept_by d) ≡ true
-Covered m found.Nothing = Unit {0}
+abbrev pub Covered : List ℕ → Option Destination → Type 0
+Covered m (Some d) = has_mute d ≡ false → among m (kept_by d) ≡ true
+Covered m None = Unit {0}
 
 module _ (m : List ℕ) where
   -- what an act leaves is within m
@@ -222,10 +220,10 @@ module _ (m : List ℕ) where
   mute_if_so true d s h w t = w
   mute_if_so false d s h w t = mute_level_so (is_hushed (kept_by d) (targets_of s)) d s (h refl) w t
 
-  mute_to_so : (f : Found) (r : Rig) (l : Lamps) (s : List Hushed) → Covered m f → Within m s → Leaves (mute_to f r l s)
+  mute_to_so : (f : Option Destination) (r : Rig) (l : Lamps) (s : List Hushed) → Covered m f → Within m s → Leaves (mute_to f r l s)
   unfolding next
-  mute_to_so (found.To d) r l s h w t = mute_if_so (has_mute d) d s h w t
-  mute_to_so found.Nothing r l s h w t = w
+  mute_to_so (Some d) r l s h w t = mute_if_so (has_mute d) d s h w t
+  mute_to_so None r l s h w t = w
 
   -- ── solo off ──
   back_if_so : (b : Bool) (d : Destination) (s : List Hushed) → Within m s → Leaves (back_if b d s)
@@ -236,11 +234,11 @@ module _ (m : List ℕ) where
   off_if_so true d was s w t = w
   off_if_so false d was s w t = back_if_so (is_hushed (kept_by d) (targets_of s)) d s w t
 
-  off_to_so : (f : Found) (was : Bool) (s : List Hushed) → Within m s → Leaves (off_to f was s)
-  off_to_so (found.To d) was s w t = off_if_so (has_mute d) d was s w t
-  off_to_so found.Nothing was s w t = w
+  off_to_so : (f : Option Destination) (was : Bool) (s : List Hushed) → Within m s → Leaves (off_to f was s)
+  off_to_so (Some d) was s w t = off_if_so (has_mute d) d was s w t
+  off_to_so None was s w t = w
 
-  solo_off_so : (of : ℕ → Found) (l : Lamps) (n : ℕ) (s : List Hushed) → Within m s → Leaves (solo_off of l n s)
+  solo_off_so : (of : ℕ → Option Destination) (l : Lamps) (n : ℕ) (s : List Hushed) → Within m s → Leaves (solo_off of l n s)
   unfolding solo_off next
   solo_off_so of l zero s w t = w
   solo_off_so of l (suc n) s w t = let u = solo_off of l n s t in off_to_so (of (n + 1)) (was_muted (n + 1) l) u.value (solo_off_so of l n s w t) u.talk
@@ -260,11 +258,11 @@ module _ (m : List ℕ) where
   alone_so false d s w t = back_if_so (is_hushed (kept_by d) (targets_of s)) d s w t
 
   -- `self`: it is the fader itself
-  pub on_to_so : (self : Bool) (f : Found) (s : List Hushed) → Covered m (pick self found.Nothing f) → Within m s → Leaves (on_to f (not self) s)
-  on_to_so true (found.To d) s h w t = alone_so (has_mute d) d s w t
-  on_to_so false (found.To d) s h w t = on_so (has_mute d) d s h w t
-  on_to_so true found.Nothing s h w t = w
-  on_to_so false found.Nothing s h w t = w
+  pub on_to_so : (self : Bool) (f : Option Destination) (s : List Hushed) → Covered m (pick self None f) → Within m s → Leaves (on_to f (not self) s)
+  on_to_so true (Some d) s h w t = alone_so (has_mute d) d s w t
+  on_to_so false (Some d) s h w t = on_so (has_mute d) d s h w t
+  on_to_so true None s h w t = w
+  on_to_so false None s h w t = w
 
 -- ── what number 11 counts covers the destination ──
 
@@ -272,9 +270,9 @@ module _ (ts l : List ℕ) where
   abbrev made : ℕ → List ℕ
   made x = change (is_same x) (λ z. z) x l
 
-  pub adding-more : (f : Found) (x : ℕ) → among l x ≡ true → among (adding f ts l) x ≡ true
-  adding-more found.Nothing x e = e
-  adding-more (found.To d) x e = go (has_mute d)
+  pub adding-more : (f : Option Destination) (x : ℕ) → among l x ≡ true → among (adding f ts l) x ≡ true
+  adding-more None x e = e
+  adding-more (Some d) x e = go (has_mute d)
     where
       at : (h : Bool) → among (pick h l (made (kept_by d))) x ≡ true
       at true = e
@@ -284,10 +282,10 @@ module _ (ts l : List ℕ) where
       go true = e
       go false = at (is_hushed (kept_by d) ts)
 
-  pub adding_covers : (f : Found) → Covered (ts ++ adding f ts l) f
+  pub adding_covers : (f : Option Destination) → Covered (ts ++ adding f ts l) f
   unfolding is_hushed
-  adding_covers found.Nothing = tt
-  adding_covers (found.To d) = go (has_mute d)
+  adding_covers None = tt
+  adding_covers (Some d) = go (has_mute d)
     where
       at : (h : Bool) → is_hushed (kept_by d) ts ≡ h → among (ts ++ pick h l (made (kept_by d))) (kept_by d) ≡ true
       at true e = any-first (λ y. eqb y (kept_by d)) ts l e
@@ -306,13 +304,13 @@ module _ (s : List Hushed) (o : no_twice same_hushed s ≡ true) where
   unfolding mute added_by_mute
   mute_so r n l = let f = destination r n in mute_to_so (ts ++ adding f ts []) f r l s (adding_covers ts [] f) (held s (adding f ts []) o)
 
-  pub solo_on_so : (of : ℕ → Found) (fader n : ℕ) → Leaves (ts ++ solo_adds of fader ts n) (solo_on of fader n s)
+  pub solo_on_so : (of : ℕ → Option Destination) (fader n : ℕ) → Leaves (ts ++ solo_adds of fader ts n) (solo_on of fader n s)
   unfolding solo_on solo_adds next
   solo_on_so of fader zero t = held s [] o
   solo_on_so of fader (suc n) t =
       let u = solo_on of fader n s t in
       let adds = solo_adds of fader ts n in
-      let f = pick (eqb (n + 1) fader) found.Nothing (of (n + 1)) in
+      let f = pick (eqb (n + 1) fader) None (of (n + 1)) in
       on_to_so (ts ++ adding f ts adds) (eqb (n + 1) fader) (of (n + 1)) u.value (adding_covers ts adds f)
       (grown (λ x. any_both (λ y. eqb y x) ts adds (adding f ts adds) (adding-more ts adds f x)) (solo_on_so of fader n t))
       u.talk
@@ -323,9 +321,9 @@ module _ (s : List Hushed) (o : no_twice same_hushed s ≡ true) where
   solo_if_so r true group fader l t = solo_off_so (ts ++ []) (peer r group) l 16 s (held s [] o) t
   solo_if_so r false group fader l t = solo_on_so (peer r group) fader 16 (note_if (eqb l.soloed 0) (peer r group) ts l t).talk
 
-  solo_with_so : (f : Found) (r : Rig) (fader : ℕ) (l : Lamps) (t : Talk) → Within (ts ++ adds_to f r fader l ts) (solo_with f r fader l s t).value.silenced
-  solo_with_so (found.To d) r fader l t = solo_if_so r (eqb l.soloed fader) d.group fader l t
-  solo_with_so found.Nothing r fader l t = held s [] o
+  solo_with_so : (f : Option Destination) (r : Rig) (fader : ℕ) (l : Lamps) (t : Talk) → Within (ts ++ adds_to f r fader l ts) (solo_with f r fader l s t).value.silenced
+  solo_with_so (Some d) r fader l t = solo_if_so r (eqb l.soloed fader) d.group fader l t
+  solo_with_so None r fader l t = held s [] o
 
   pub solo_so : (r : Rig) (n : ℕ) (l : Lamps) (t : Talk) → Within (ts ++ added_by_solo r n l ts) (solo r n l s t).value.silenced
   unfolding solo added_by_solo

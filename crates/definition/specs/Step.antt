@@ -1,6 +1,5 @@
 -- An event: what it does to the session, which calls and messages it makes, and how it ends. Definitions only.
-use Rattle.std.specs.Prelude.{ℕ, ◌+◌, ◌/◌, List, [], map, Bool, true, false, ◌&&◌, eqb, ltb, length, get_or, set, Float}
-use Rattle.std.proofs.Math.Option.{none, some}
+use Rattle.std.specs.Prelude.{ℕ, ◌+◌, ◌/◌, List, [], map, Bool, true, false, ◌&&◌, eqb, ltb, length, get_or, set, Float, None, Some}
 use Rattle.base.specs.Choice.{pick}
 use Rattle.protocol.specs.declared.Event.{Event}
 use Rattle.protocol.specs.declared.Event.TheVariants as event
@@ -125,7 +124,7 @@ unmarked_at true bank d = desk (unmark_bank bank d.marks) d.moves d.line d.turns
 unmarked_at false bank d = d
 
 abbrev pub lives_after : Bool → ℕ → List Strip → Lives → Lives
-lives_after true bank l lives = set lives bank (some l)
+lives_after true bank l lives = set lives bank (Some l)
 lives_after false bank l lives = lives
 
 abbrev pub site_after : Bool → Float → Refreshed → Site → Site
@@ -143,7 +142,7 @@ flash_tick due v k now r t =
 
 abbrev pub tick_with : Bool → View → Kept → Float → Act Left
 tick_with due v k now t =
-    next (refresh_due due (get_or k.site.lives k.site.bank none) (rig_now v k) k.lamps (targets_of k.silenced) (drain (rig_now v k) k.desk t))
+    next (refresh_due due (get_or k.site.lives k.site.bank None) (rig_now v k) k.lamps (targets_of k.silenced) (drain (rig_now v k) k.desk t))
     (λ r. flash_tick due v k now r)
 
 -- `tick`: the drain, a live bank's faders, and the phases of a flash

@@ -1,19 +1,18 @@
 -- An event as the host offers it, in bytes: the numbers 1 to 10 in order, lowest first, then the event itself. Definitions only.
-use Rattle.std.specs.Prelude.{ℕ, List, ◌||◌, eqb, ltb}
+use Rattle.std.specs.Prelude.{ℕ, List, ◌||◌, eqb, ltb, None, Option, Some}
 use Rattle.base.specs.Choice.{pick}
 use Rattle.profile.specs.Profile.{verdict}
 use Rattle.lookup.specs.View.{view_of}
 use Rattle.session.specs.declared.Session.{Session}
 use Rattle.event.specs.Event.{read_of}
-use Rattle.event.specs.declared.Read.{Read}
-use Rattle.event.specs.declared.Read.TheVariants.{Known, Unknown}
 use Rattle.definition.specs.Shape.{well_shaped}
 use Rattle.definition.specs.Step.{Kept, seen, refused, Stepped, stepped, step}
+use Rattle.event.specs.declared.Timed.{Timed}
 
 -- 10: "event kind or length unknown, record incomplete"
-abbrev pub offered : Read → List ℕ → Kept → List ℕ → Stepped
-offered (Known e) p k answers = step (view_of p) k e answers
-offered Unknown p k answers = stepped (refused 10) k
+abbrev pub offered : Option Timed → List ℕ → Kept → List ℕ → Stepped
+offered (Some e) p k answers = step (view_of p) k e answers
+offered None p k answers = stepped (refused 10) k
 
 -- the profile p, the session s, the event's record, the answers, and the lengths of the message buffer and of the call buffer. A refused event leaves the
 -- session as it was

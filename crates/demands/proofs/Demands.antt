@@ -1,5 +1,6 @@
 -- Demand 3 of the running bridge: of every list of events offered to `bridge::step` from a fresh session over an accepted profile, refused, unknown and
 -- waiting ones included, the account holds, and what waits in the session is the account's. Assumes nothing.
+use Rattle.std.proofs.Common.{None, Option, Some}
 use Prim.Native.Nat.{ℕ}
 use mathlib.Core.Path.{◌≡◌, refl, sym, ap, subst, ◌∙◌}
 use mathlib.Core.Bool.{Bool, true, false, ◌||◌}
@@ -13,8 +14,6 @@ use Rattle.lookup.specs.View.{view_of}
 use Rattle.session.specs.Session.{fresh_session}
 use Rattle.session.specs.declared.Session.{Session}
 use Rattle.event.specs.Event.{read_of}
-use Rattle.event.specs.declared.Read.{Read}
-use Rattle.event.specs.declared.Read.TheVariants.{Known, Unknown}
 use Rattle.definition.specs.Shape.{well_shaped}
 use Rattle.definition.specs.Step.{Kept, fresh_kept, stepped, refused, seen, step}
 use Rattle.definition.specs.Whole.{whole, offered}
@@ -22,23 +21,24 @@ use Rattle.account.specs.Account.{Holds, step_of, pasts, final, account, blank}
 use Rattle.account.proofs.Theorem.{demand_3_of}
 use Rattle.bridge.proofs.ShapedLaws.{fresh-seen, fresh-shaped, stays-shaped}
 use Rattle.demands.specs.Running.{Step, Runs, offer_of}
+use Rattle.event.specs.declared.Timed.{Timed}
 
 -- ── one call ──
 
 module _ (p : List ℕ) (ok : verdict p ≡ 0) (s : Session) (shaped : well_shaped p s ≡ true) where
   -- it keeps what the account's step keeps
   keeps_so : (event answers : List ℕ) (m c : ℕ) →
-      (whole p s event answers m c).kept ≡ (step_of step (view_of p) (seen p s) (pick (ltb m 306 || ltb c 5392) Unknown (read_of event)) answers).kept
+      (whole p s event answers m c).kept ≡ (step_of step (view_of p) (seen p s) (pick (ltb m 306 || ltb c 5392) None (read_of event)) answers).kept
   unfolding whole
   keeps_so event answers m c = rw (eq-eqb (verdict p) 0 ok, shaped) (room_at_lem (ltb m 306 || ltb c 5392))
     where
-      read_at : (r : Read) → (offered r p (seen p s) answers).kept ≡ (step_of step (view_of p) (seen p s) r answers).kept
-      read_at (Known e) = refl
-      read_at Unknown = refl
+      read_at : (r : Option Timed) → (offered r p (seen p s) answers).kept ≡ (step_of step (view_of p) (seen p s) r answers).kept
+      read_at (Some e) = refl
+      read_at None = refl
 
       room_at_lem : (b : Bool) →
           (pick b (stepped (refused 9) (seen p s)) (offered (read_of event) p (seen p s) answers)).kept
-          ≡ (step_of step (view_of p) (seen p s) (pick b Unknown (read_of event)) answers).kept
+          ≡ (step_of step (view_of p) (seen p s) (pick b None (read_of event)) answers).kept
       room_at_lem true = refl
       room_at_lem false = read_at (read_of event)
 

@@ -1,9 +1,8 @@
 -- A run of the bridge: `bridge::step` called with one event after another, each time with the session that the last call returned. Definitions only.
-use Rattle.std.specs.Prelude.{ℕ, ◌≡◌, ◌||◌, List, [], ◌∷◌, ltb, length}
+use Rattle.std.specs.Prelude.{ℕ, ◌≡◌, ◌||◌, List, [], ◌∷◌, ltb, length, None}
 use Rattle.base.specs.Choice.{pick}
 use Rattle.session.specs.declared.Session.{Session}
 use Rattle.event.specs.Event.{read_of}
-use Rattle.event.specs.declared.Read.TheVariants.{Unknown}
 use Rattle.definition.specs.Whole.{whole}
 use Rattle.account.specs.Account.{Offer}
 use Rattle.bridge.specs.Bridge.{Delivers}
@@ -33,4 +32,4 @@ Runs p s (x ∷ xs) z = Does p s x × Runs p x.result.session xs z
 -- what the account is offered: an event whose buffers are too short, number 9, is offered in vain, as one that cannot be read is
 abbrev pub offer_of : Step → Offer
 offer_of x =
-    record { event = pick (ltb (length x.messages) 306 || ltb (length x.calls) 5392) Unknown (read_of x.event); answers = x.answers }
+    record { event = pick (ltb (length x.messages) 306 || ltb (length x.calls) 5392) None (read_of x.event); answers = x.answers }

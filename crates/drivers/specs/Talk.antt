@@ -1,7 +1,7 @@
 -- The line to the devices and to the surface in one event, as the definitions speak of it: no buffer and no offset. A call takes the next answer; once
 -- one is missing or does not fit, the line stops, and every further call and message does nothing. Only `ask` and `send` look at the stop, so that what
 -- an event does is said straight on. Definitions only.
-use Rattle.std.specs.Prelude.{ℕ, ◌+◌, ◌*◌, List, [], ◌∷◌, ◌++◌, map, Bool, true, false, leb, eqb, length, get_or, set, drop, Float}
+use Rattle.std.specs.Prelude.{ℕ, ◌+◌, ◌*◌, List, [], ◌∷◌, ◌++◌, map, Bool, true, false, leb, eqb, length, get_or, set, drop, Float, None, Option, Some}
 use Rattle.std.specs.Float.{binary64}
 use Rattle.std.specs.Float.Ieee.{to_bits}
 use Rattle.base.specs.Choice.{pick}
@@ -12,10 +12,6 @@ use Rattle.drivers.specs.declared.Call.{Call}
 use Rattle.drivers.specs.declared.Answer.{Answer}
 use Rattle.drivers.specs.declared.Answer.TheVariants as answer
 use Rattle.drivers.specs.declared.LiveFader.{LiveFader}
-use Rattle.drivers.specs.declared.Level.{Level}
-use Rattle.drivers.specs.declared.Level.TheVariants as level
-use Rattle.drivers.specs.declared.Index.{Index}
-use Rattle.drivers.specs.declared.Index.TheVariants as index
 
 infixl 1 ◌>>=◌
 -- Why a line stopped: an answer is missing ("waiting", with that call), one is cut short or does not fit (14), or a buffer is full, which no event reaches
@@ -145,31 +141,31 @@ use_call c = open_for c.driver c.name >>= λ ok. ask_if ok c
 
 -- ── the uses ──
 
-abbrev pub level_of : Answer → Level
-level_of answer.Refused = level.Unknown
-level_of answer.Done = level.Unknown
-level_of (answer.Level x) = level.At x
-level_of answer.Nothing = level.Unknown
-level_of (answer.YesNo b) = level.Unknown
-level_of (answer.Index i) = level.Unknown
-level_of answer.List = level.Unknown
-level_of answer.Unfit = level.Unknown
+abbrev pub level_of : Answer → Option Float
+level_of answer.Refused = None
+level_of answer.Done = None
+level_of (answer.Level x) = Some x
+level_of answer.Nothing = None
+level_of (answer.YesNo b) = None
+level_of (answer.Index i) = None
+level_of answer.List = None
+level_of answer.Unfit = None
 
-abbrev pub index_of : Answer → Index
-index_of answer.Refused = index.Nothing
-index_of answer.Done = index.Nothing
-index_of (answer.Level x) = index.Nothing
-index_of answer.Nothing = index.Nothing
-index_of (answer.YesNo b) = index.Nothing
-index_of (answer.Index i) = index.At i
-index_of answer.List = index.Nothing
-index_of answer.Unfit = index.Nothing
+abbrev pub index_of : Answer → Option ℕ
+index_of answer.Refused = None
+index_of answer.Done = None
+index_of (answer.Level x) = None
+index_of answer.Nothing = None
+index_of (answer.YesNo b) = None
+index_of (answer.Index i) = Some i
+index_of answer.List = None
+index_of answer.Unfit = None
 
 -- the use was made and answered done
 unfoldable pub use_done : Call → Act Bool
 use_done c = use_call c >>= λ r. got (is_done r.answer)
 
-unfoldable pub read_of : ℕ → ℕ → Act Level
+unfoldable pub read_of : ℕ → ℕ → Act (Option Float)
 read_of driver name = use_call (plain_call 1 driver name 0) >>= λ r. got (level_of r.answer)
 
 unfoldable pub write_call : ℕ → ℕ → Float → Call
@@ -199,7 +195,7 @@ name_of f = f.target
 unfoldable pub scenes_of : ℕ → Act (Listed ℕ)
 scenes_of driver = use_call (plain_call 6 driver 0 0) >>= λ r. got (record { ok = is_list r.answer; list = map name_of r.items })
 
-unfoldable pub current_of : ℕ → Act Index
+unfoldable pub current_of : ℕ → Act (Option ℕ)
 current_of driver = use_call (plain_call 7 driver 0 0) >>= λ r. got (index_of r.answer)
 
 unfoldable pub load_of : ℕ → ℕ → Act Bool

@@ -76,17 +76,10 @@ pub struct Io {
     pub due: Call,
 }
 
-// A level that a device has, or none.
-#[derive(Clone, Copy)]
-pub enum Level {
-    At(f64),
-    Unknown,
-}
-
 #[derive(Clone, Copy)]
 pub struct Reading {
     pub io: Io,
-    pub level: Level,
+    pub level: Option<f64>,
 }
 
 // Whether a use was made and not refused.
@@ -133,15 +126,8 @@ pub struct Lives {
     pub faders: FaderList,
 }
 
-// A place in a list of scenes, or none.
-#[derive(Clone, Copy)]
-pub enum Index {
-    At(u32),
-    Nothing,
-}
-
 #[derive(Clone, Copy)]
 pub struct Current {
     pub io: Io,
-    pub index: Index,
+    pub index: Option<u32>,
 }

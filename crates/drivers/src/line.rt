@@ -9,8 +9,8 @@ ghost use Rattle.drivers.specs.Talk.{got, start, name_of, ask as ask_of, open_fo
 ghost use Rattle.drivers.specs.Shown.{shown, call_bytes, halt_of, noted_of, opened_in, sent_one, roomless, reply_in, Listing, seen_names, seen_faders, listed};
 
 use crate::{
-    Answer, Call, Current, DECLINED, FaderList, GOING, Index, Io, Level, LiveFader, Lives, Names,
-    OVERRUN, Reading, SceneList, Tried, WAITS, parse,
+    Answer, Call, Current, DECLINED, FaderList, GOING, Io, LiveFader, Lives, Names, OVERRUN,
+    Reading, SceneList, Tried, WAITS, parse,
 };
 
 // A call's answer, and, of a list, where its own record stands and how many items follow.
@@ -270,18 +270,12 @@ pub fn open(
     open_for(answers, calls, messages, io, driver, 0)
 }
 
-fn level_of(a: Answer) -> Level
+fn level_of(a: Answer) -> Option<f64>
     ensures { result ≡ level_of a }
 {
     match a {
-        Answer::Refused => Level::Unknown,
-        Answer::Done => Level::Unknown,
-        Answer::Level(x) => Level::At(x),
-        Answer::Nothing => Level::Unknown,
-        Answer::YesNo(_) => Level::Unknown,
-        Answer::Index(_) => Level::Unknown,
-        Answer::List => Level::Unknown,
-        Answer::Unfit => Level::Unknown,
+        Answer::Level(x) => Some(x),
+        _ => None,
     }
 }
 
@@ -422,18 +416,12 @@ pub fn scenes(
     }
 }
 
-fn index_of(a: Answer) -> Index
+fn index_of(a: Answer) -> Option<u32>
     ensures { result ≡ index_of a }
 {
     match a {
-        Answer::Refused => Index::Nothing,
-        Answer::Done => Index::Nothing,
-        Answer::Level(_) => Index::Nothing,
-        Answer::Nothing => Index::Nothing,
-        Answer::YesNo(_) => Index::Nothing,
-        Answer::Index(i) => Index::At(i),
-        Answer::List => Index::Nothing,
-        Answer::Unfit => Index::Nothing,
+        Answer::Index(i) => Some(i),
+        _ => None,
     }
 }
 

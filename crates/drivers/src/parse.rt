@@ -201,59 +201,23 @@ pub fn first(part: &[u8], kind: u8) -> Answer
 pub fn is_unfit(a: Answer) -> bool
     ensures { result ≡ is_unfit a }
 {
-    match a {
-        Answer::Refused => false,
-        Answer::Done => false,
-        Answer::Level(_) => false,
-        Answer::Nothing => false,
-        Answer::YesNo(_) => false,
-        Answer::Index(_) => false,
-        Answer::List => false,
-        Answer::Unfit => true,
-    }
+    matches!(a, Answer::Unfit)
 }
 
 pub fn is_done(a: Answer) -> bool
     ensures { result ≡ is_done a }
 {
-    match a {
-        Answer::Refused => false,
-        Answer::Done => true,
-        Answer::Level(_) => false,
-        Answer::Nothing => false,
-        Answer::YesNo(_) => false,
-        Answer::Index(_) => false,
-        Answer::List => false,
-        Answer::Unfit => false,
-    }
+    matches!(a, Answer::Done)
 }
 
 pub fn is_yes_no(a: Answer) -> bool
     ensures { result ≡ is_yes_no a }
 {
-    match a {
-        Answer::Refused => false,
-        Answer::Done => false,
-        Answer::Level(_) => false,
-        Answer::Nothing => false,
-        Answer::YesNo(_) => true,
-        Answer::Index(_) => false,
-        Answer::List => false,
-        Answer::Unfit => false,
-    }
+    matches!(a, Answer::YesNo(_))
 }
 
 pub fn is_list(a: Answer) -> bool
     ensures { result ≡ is_list a }
 {
-    match a {
-        Answer::Refused => false,
-        Answer::Done => false,
-        Answer::Level(_) => false,
-        Answer::Nothing => false,
-        Answer::YesNo(_) => false,
-        Answer::Index(_) => false,
-        Answer::List => true,
-        Answer::Unfit => false,
-    }
+    matches!(a, Answer::List)
 }

@@ -1,6 +1,6 @@
 -- "Event, 16 bytes: byte 0 kind (1 MIDI, 2 tick, 3 push_state, 4 push_transport, 5 flash_bank), 1 length 0 to 3, message from 2, time at 8."
 -- Definitions only.
-use Rattle.std.specs.Prelude.{ℕ, List, Bool, false, ◌&&◌, ltb, leb, eqb, length, get_or, take, drop}
+use Rattle.std.specs.Prelude.{ℕ, List, Bool, false, ◌&&◌, ltb, leb, eqb, length, get_or, take, drop, None, Option, Some}
 use Rattle.std.specs.Float.{binary64}
 use Rattle.std.specs.Float.Ieee.{of_bits}
 use Rattle.base.specs.Choice.{pick}
@@ -9,8 +9,6 @@ use Rattle.protocol.specs.Protocol.{decode_of}
 use Rattle.event.specs.declared.Input.{Input}
 use Rattle.event.specs.declared.Input.TheVariants as input
 use Rattle.event.specs.declared.Timed.{Timed}
-use Rattle.event.specs.declared.Read.{Read}
-use Rattle.event.specs.declared.Read.TheVariants.{Known, Unknown}
 
 -- 10: "event kind or length unknown, record incomplete"; "the length is checked for every kind"
 unfoldable pub event_ok : List ℕ → Bool
@@ -30,5 +28,5 @@ input_of s =
 abbrev pub timed_of : List ℕ → Timed
 timed_of s = record { time = of_bits binary64 (le64 s 8); what = input_of s }
 
-unfoldable pub read_of : List ℕ → Read
-read_of s = pick (event_ok s) (Known (timed_of s)) Unknown
+unfoldable pub read_of : List ℕ → Option Timed
+read_of s = pick (event_ok s) (Some (timed_of s)) None

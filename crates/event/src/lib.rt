@@ -22,13 +22,6 @@ pub struct Timed {
     pub what: Input,
 }
 
-#[derive(Clone, Copy)]
-pub enum Read {
-    Known(Timed),
-    // Number 10.
-    Unknown,
-}
-
 // The record is whole, and its kind and length are known. The length is checked for every kind.
 fn event_ok(event: &[u8]) -> bool
     ensures { result ≡ event_ok event.now }
@@ -60,15 +53,15 @@ fn said(event: &[u8]) -> Input
     Input::FlashBank
 }
 
-pub fn read_event(event: &[u8]) -> Read
+pub fn read_event(event: &[u8]) -> Option<Timed>
     ensures { result ≡ read_of event.now }
 {
     if !event_ok(event) {
-        return Read::Unknown;
+        return None;
     }
     let what = said(event);
     let time = float::read_f64(event, 8);
-    Read::Known(Timed {
+    Some(Timed {
         time: time,
         what: what,
     })

@@ -1,8 +1,8 @@
 -- A move's verdict on every desk, the sums and the line applied one more at a time, and what a search among the sums shows. Assumes nothing.
+use Rattle.std.proofs.Common.{None, Option, Some}
 use mathlib.Core.Path.{◌≡◌, refl, sym, ap, ◌∙◌, subst}
 use mathlib.Core.Bool.{Bool, true, false, ◌&&◌, ◌||◌, not, true≢false}
 use mathlib.Core.List.{List, [], ◌∷◌, ◌++◌}
-use mathlib.Core.Option.{none, some}
 use Prim.Native.Nat.{ℕ, zero, suc, ◌+◌, ◌≤◌, ◌<◌}
 use native.Mathlib.Numerals.{add-one}
 use native.Mathlib.Omega.{arith}
@@ -21,9 +21,7 @@ use Rattle.base.specs.KeyedLaws as laws
 use Rattle.base.specs.BesideLaws as side
 use Rattle.float.specs.Leaf.{nudge}
 use Rattle.lookup.specs.declared.Destination.{Destination}
-use Rattle.lookup.specs.declared.Found.TheVariants.{To}
 use Rattle.drivers.specs.Talk.{Talk, Got, got, next}
-use Rattle.drivers.specs.declared.Level.{Level}
 use Rattle.session.specs.Session.{no_move, Turn, turn_at, turns_up_to, wires_to, is_dest}
 use Rattle.session.specs.SessionLaws.{sums_in, sums_long, same_sum}
 use Rattle.session.specs.declared.Move.{Move}
@@ -40,16 +38,16 @@ asked : (takeover : Bool) → takeover ≡ true → (takeover && not false) ≡ 
 asked true q = refl
 asked false q = absurd (true≢false (sym q))
 
-module _ (e : Destination) (last : Level) (value : Float) (t : Talk) where
-  pub taken_unasked : e.takeover ≡ false → Fades (To e) last value t Taken t
+module _ (e : Destination) (last : Option Float) (value : Float) (t : Talk) where
+  pub taken_unasked : e.takeover ≡ false → Fades (Some e) last value t Taken t
   taken_unasked q k ch d i j = rw q
 
-  module _ (c : Level) (u : Talk) (b : Bool) (q : e.takeover ≡ true) (r : got c u ≡ read e t) (h : b ≡ is_held c last value) where
-    pub held : b ≡ true → Fades (To e) last value t Held u
+  module _ (c : Option Float) (u : Talk) (b : Bool) (q : e.takeover ≡ true) (r : got c u ≡ read e t) (h : b ≡ is_held c last value) where
+    pub held : b ≡ true → Fades (Some e) last value t Held u
     unfolding next
     held s k ch d i j = rw (i, asked e.takeover q, ← r, j, ← h, s)
 
-    pub taken : b ≡ false → Fades (To e) last value t Taken u
+    pub taken : b ≡ false → Fades (Some e) last value t Taken u
     unfolding next
     taken s k ch d i j = rw (i, asked e.takeover q, ← r, j, ← h, s)
 
@@ -68,7 +66,7 @@ pub nudged_there : (e : Destination) (sum z : ℤ) (c v : Float) (g : Got Bool) 
     g.talk ≡ (write e (nudge c sum) t).talk
 nudged_there e sum z c v g t a b h = rw (← a, ← b, ← h)
 
-pub nudged-from : (l : Level) (e : Destination) (sum z : ℤ) (t v : Talk) → z ≡ sum → v ≡ nudge_from l e z t → v ≡ nudge_from l e sum t
+pub nudged-from : (l : Option Float) (e : Destination) (sum z : ℤ) (t v : Talk) → z ≡ sum → v ≡ nudge_from l e z t → v ≡ nudge_from l e sum t
 nudged-from l e sum z t v a b = rw (← a) b
 
 pub leaves : (b : Bool) (sum delta y z : ℤ) → y ≡ sum → z ≡ delta → b ≡ not (in_range (y +ℤ z)) → b ≡ not (in_range (sum +ℤ delta))
@@ -154,12 +152,12 @@ module _ (p ks : List ℕ) (ns : List ℤ) (n i : ℕ) (d : Destination) (delta 
   abbrev verdict : ℕ
   verdict = declined_by (find (is_dest d) (turns_up_to p n ks ns)) delta (turns_up_to p n ks ns)
 
-  sum_there : i < n → find (is_dest d) (turns_up_to p n ks ns) ≡ some (turn_at p (get_or ks i 0) (get_or ns i (pos 0)))
+  sum_there : i < n → find (is_dest d) (turns_up_to p n ks ns) ≡ Some (turn_at p (get_or ks i 0) (get_or ns i (pos 0)))
   sum_there h =
       rw (side.beside-take (turn_at p) n ks ns, laws.found (is_dest d) (turn_at p 0 (pos 0)) sums n i same (omega (arith, sums_long p ks ns lk ln)) h)
-      (ap some (side.beside-get_or (turn_at p) 0 (pos 0) ks ns i (omega arith)))
+      (ap Some (side.beside-get_or (turn_at p) 0 (pos 0) ks ns i (omega arith)))
 
-  sum_missing : n ≤ i → find (is_dest d) (turns_up_to p n ks ns) ≡ none
+  sum_missing : n ≤ i → find (is_dest d) (turns_up_to p n ks ns) ≡ None
   sum_missing h =
       rw (side.beside-take (turn_at p) n ks ns) (laws.not_found (is_dest d) (turn_at p 0 (pos 0)) sums n i same (omega (arith, sums_long p ks ns lk ln)) h)
 

@@ -12,8 +12,8 @@ ghost use Rattle.definition.specs.Faders.{in_range, declined_by, nudge_from, app
 ghost use Rattle.rig.specs.Seen.{rig_in};
 ghost use Rattle.hands.specs.Sums.{SumsFit};
 
-use drivers::{Io, Level};
-use lookup::{Destination, Found};
+use drivers::Io;
+use lookup::Destination;
 use rig::Current;
 use session::{Line, Move};
 
@@ -65,17 +65,17 @@ fn nudge_from(
     messages: &mut [u8; 306],
     io: Io,
     dest: Destination,
-    current: Level,
+    current: Option<f64>,
     sum: i32,
 ) -> Io
     ensures { shown answers.now result calls.new messages.new ≡ nudge_from current dest sum (shown answers.now io calls.old messages.old) }
 {
     match current {
-        Level::At(c) => {
+        Some(c) => {
             let t = rig::levels::write(answers, calls, messages, io, dest, float::nudged(c, sum));
             t.io
         }
-        Level::Unknown => io,
+        None => io,
     }
 }
 
@@ -163,8 +163,8 @@ fn drain_move(
     ensures { shown answers.now result calls.new messages.new ≡ write_move (positions_of profile.now) (destination (rig_in profile.now here) (m.channel + 1)) m (shown answers.now io calls.old messages.old) }
 {
     match rig::here::destination(profile, here, m.channel + 1) {
-        Found::To(d) => write_move(answers, calls, messages, io, profile, d, m),
-        Found::Nothing => io,
+        Some(d) => write_move(answers, calls, messages, io, profile, d, m),
+        None => io,
     }
 }
 

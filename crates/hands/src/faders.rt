@@ -1,6 +1,5 @@
 // A move of a fader: held until it meets the device's level, else waiting for the next drain.
-ghost use Rattle.std.specs.Prelude.{◌≡◌, ◌+◌, ◌≤◌, ◌<◌};
-ghost use Rattle.lookup.specs.declared.Found.TheVariants.{To};
+ghost use Rattle.std.specs.Prelude.{◌≡◌, ◌+◌, ◌≤◌, ◌<◌, Some};
 ghost use Rattle.drivers.specs.Shown.{shown};
 ghost use Rattle.definition.specs.Rig.{destination};
 ghost use Rattle.definition.specs.Faders.{is_held};
@@ -8,21 +7,21 @@ ghost use Rattle.rig.specs.Seen.{rig_in};
 ghost use Rattle.hands.specs.Verdicts.{Fades, controlled};
 
 use crate::{Faded, Verdict};
-use drivers::{Io, Level};
-use lookup::{Destination, Found};
+use drivers::Io;
+use lookup::Destination;
 use rig::Current;
 
 // Gear that cannot answer cannot hold the fader.
-fn is_held(device: Level, last: Level, value: f64) -> bool
+fn is_held(device: Option<f64>, last: Option<f64>, value: f64) -> bool
     ensures { result ≡ is_held device last value }
 {
-    let Level::At(c) = device else {
+    let Some(c) = device else {
         return false;
     };
     let far = float::far(value, c);
     match last {
-        Level::At(p) => far & !float::crossed(p, c, value),
-        Level::Unknown => far,
+        Some(p) => far & !float::crossed(p, c, value),
+        None => far,
     }
 }
 
@@ -33,8 +32,8 @@ pub fn in_control(profile: &[u8], here: Current, channel: u8) -> Verdict
     ensures { result ≡ controlled (destination (rig_in profile.now here) (channel + 1)) }
 {
     match rig::here::destination(profile, here, channel + 1) {
-        Found::To(_) => Verdict::Taken,
-        Found::Nothing => Verdict::Ignored,
+        Some(_) => Verdict::Taken,
+        None => Verdict::Ignored,
     }
 }
 
@@ -45,10 +44,10 @@ fn fader_at(
     messages: &mut [u8; 306],
     io: Io,
     dest: Destination,
-    last: Level,
+    last: Option<f64>,
     value: f64,
 ) -> Faded
-    ensures { Fades (To dest) last value (shown answers.now io calls.old messages.old) result.verdict (shown answers.now result.io calls.new messages.new) }
+    ensures { Fades (Some dest) last value (shown answers.now io calls.old messages.old) result.verdict (shown answers.now result.io calls.new messages.new) }
 {
     if !dest.takeover {
         return Faded {
@@ -79,7 +78,7 @@ pub fn fader(
     io: Io,
     profile: &[u8],
     here: Current,
-    last: Level,
+    last: Option<f64>,
     channel: u8,
     value: f64,
 ) -> Faded
@@ -88,8 +87,8 @@ pub fn fader(
     ensures { Fades (destination (rig_in profile.now here) (channel + 1)) last value (shown answers.now io calls.old messages.old) result.verdict (shown answers.now result.io calls.new messages.new) }
 {
     match rig::here::destination(profile, here, channel + 1) {
-        Found::To(d) => fader_at(answers, calls, messages, io, d, last, value),
-        Found::Nothing => Faded {
+        Some(d) => fader_at(answers, calls, messages, io, d, last, value),
+        None => Faded {
             io: io,
             verdict: Verdict::Ignored,
         },

@@ -1,10 +1,10 @@
 -- A live bank's list, asked again, from what the calls promise. Assumes nothing.
+use Rattle.std.proofs.Common.{Option, Some}
 use Prim.Native.Nat.{ℕ, ◌≤◌}
 use mathlib.Core.Path.{◌≡◌, refl, sym, ap, ◌∙◌}
 use mathlib.Core.Bool.{Bool, true, false, ◌||◌, not}
 use mathlib.Core.List.{List}
 use mathlib.Core.Logic.{◌⊎◌, inl, inr}
-use mathlib.Core.Option.{Option, some}
 use native.Mathlib.Omega.{arith}
 use lib.Dec.{eqb}
 use lib.ListN.{take}
@@ -71,7 +71,7 @@ module _ (known : Option (List Strip)) (r : Rig) (x : Lamps) (s : List ℕ) (t :
 
   -- the driver handed over l, which is kept as o, and the line after it is u
   module _ (ok : Bool) (l : List LiveFader) (u : Talk) (o : Option (List Strip)) (same : Bool) (e : (eqb which 65535 || eqb driver 65535) ≡ false)
-      (g : got (listed ok l) u ≡ live_of driver which t) (h : o ≡ some (strips_of driver l)) (b : same ≡ same_as known (strips_or o)) where
+      (g : got (listed ok l) u ≡ live_of driver which t) (h : o ≡ Some (strips_of driver l)) (b : same ≡ same_as known (strips_or o)) where
     asked : change_if same (strips_or o) r x s u ≡ refresh_live known r x s t
     unfolding refresh_live next
     asked = rw (← a, ← d, e, ← g, b, h)
@@ -92,7 +92,7 @@ still here r e q h = record { bank = ap (λ (c : Current). c.bank) e; few = rw e
     no p = let z : ◌≡◌ {A = Bool} true false = p in cc
 
 -- it has another list
-pub renewed : (here : Current) (r : Refreshed) (l : List Strip) → r.here.bank ≡ here.bank → r.here.strips.count ≤ 8 → seen_strips r.here.strips ≡ some l →
+pub renewed : (here : Current) (r : Refreshed) (l : List Strip) → r.here.bank ≡ here.bank → r.here.strips.count ≤ 8 → seen_strips r.here.strips ≡ Some l →
     StillHere here r
 renewed here r l e h q = record { bank = e; few = h; known = λ p. is_known r.here.strips l q }
 

@@ -2,19 +2,16 @@
 use Prim.Native.Nat.{ℕ, zero, suc, ◌+◌, ◌≤◌, ◌<◌}
 use Rattle.std.specs.Prelude.{◌≡◌, Bool, ◌&&◌, cond, get_or}
 use Rattle.std.proofs.Math.Path.{refl, sym, ap}
-use Rattle.std.proofs.Common.{◌∙◌, le_antisymm, eq-or-lt_of_le, le_of_suc-le-suc, add-zero, add-one, arith}
+use Rattle.std.proofs.Common.{◌∙◌, le_antisymm, eq-or-lt_of_le, le_of_suc-le-suc, add-zero, add-one, arith, None, Option, Some}
 use Rattle.std.proofs.Math.Bool.{true, false}
 use mathlib.Core.List.{List, [], ◌∷◌, ◌++◌, append-nil}
 use Rattle.std.proofs.Math.Logic.{⊎_elim}
-use Rattle.std.proofs.Math.Option.{Option, none, some}
 use Rattle.std.proofs.Math.ListN.{length, length-append, get_or-eq_default, get_or-append}
 use Rattle.std.proofs.lemmas.List.{get_or_at}
 use Rattle.base.specs.Choice.{pick}
 use Rattle.base.specs.Range.{count, bit}
 use Rattle.base.specs.First.{first, or_else}
 use Rattle.base.specs.Keyed.{find}
-use Rattle.base.specs.declared.Place.{Place}
-use Rattle.base.specs.declared.Place.TheVariants.{At, Nothing}
 use Rattle.profile.specs.RangeMore.{count-lt}
 use Rattle.lookup.specs.Gather.{gather}
 use Rattle.lookup.specs.FirstMore.{not_behind}
@@ -22,12 +19,12 @@ use Rattle.lookup.specs.GatherLaws.{from}
 
 -- the first of two that is there
 abbrev either : {A : Type 0} → Option A → Option A → Option A
-either (some x) y = some x
-either none y = y
+either (Some x) y = Some x
+either None y = y
 
-from_else : {A : Type 0} (g : ℕ → A) (a b : Place) → from g (or_else a b) ≡ either (from g a) (from g b)
-from_else g (At k) b = refl
-from_else g Nothing b = refl
+from_else : {A : Type 0} (g : ℕ → A) (a b : Option ℕ) → from g (or_else a b) ≡ either (from g a) (from g b)
+from_else g (Some k) b = refl
+from_else g None b = refl
 
 module _ {A : Type 0} (p : ℕ → Bool) (g : ℕ → A) where
   pub gather_yes : (i : ℕ) → p i ≡ true → gather (i + 1) p g ≡ gather i p g ++ (g i ∷ [])
@@ -85,17 +82,17 @@ module _ {A : Type 0} (p : ℕ → Bool) (g : ℕ → A) where
     find-append [] ys = refl
     find-append (x ∷ xs) ys = go (f x) (find-append xs ys)
       where
-        go : (b : Bool) → find f (xs ++ ys) ≡ either (find f xs) (find f ys) → pick b (some x) (find f (xs ++ ys)) ≡ either (pick b (some x) (find f xs)) (find f ys)
+        go : (b : Bool) → find f (xs ++ ys) ≡ either (find f xs) (find f ys) → pick b (Some x) (find f (xs ++ ys)) ≡ either (pick b (Some x) (find f xs)) (find f ys)
         go true ih = refl
         go false ih = ih
 
-    last_one : (n : ℕ) (a b : Bool) → f (g n) ≡ b → find f (pick a (g n ∷ []) []) ≡ from g (cond (a && b) (At n) Nothing)
+    last_one : (n : ℕ) (a b : Bool) → f (g n) ≡ b → find f (pick a (g n ∷ []) []) ≡ from g (cond (a && b) (Some n) None)
     unfolding find
     last_one n true true e = rw e
     last_one n true false e = rw e
     last_one n false b e = refl
 
-    no_one : find f [] ≡ none
+    no_one : find f [] ≡ None
     unfolding find
     no_one = refl
 
@@ -103,5 +100,5 @@ module _ {A : Type 0} (p : ℕ → Bool) (g : ℕ → A) where
     unfolding gather first
     gather-find zero = sym no_one
     gather-find (suc n) =
-        from_else g (first n (λ k. p k && f (g k))) (cond (p n && f (g n)) (At n) Nothing)
+        from_else g (first n (λ k. p k && f (g k))) (cond (p n && f (g n)) (Some n) None)
         ∙ rw (gather-find n, ← last_one n (p n) (f (g n)) refl) (sym (find-append (gather n p g) (pick (p n) (g n ∷ []) [])))

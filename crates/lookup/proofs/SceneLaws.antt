@@ -1,12 +1,11 @@
 -- The loops over a bank's scenes. Assumes nothing.
 use Rattle.std.specs.Prelude.{ℕ, ◌+◌, ◌≤◌, ◌<◌, ◌≡◌, List, true, length, get_or}
 use Rattle.std.proofs.Math.Path.{sym}
-use Rattle.std.proofs.Common.{◌∙◌, eq-eqb, ne_eqb}
+use Rattle.std.proofs.Common.{◌∙◌, eq-eqb, ne_eqb, None, Some}
 use Rattle.std.proofs.Math.Dec.{eqb}
 use Rattle.base.specs.Range.{count}
 use Rattle.base.specs.First.{first}
 use Rattle.base.specs.FirstLaws.{first_more, first-hit}
-use Rattle.base.specs.declared.Place.TheVariants.{At, Nothing}
 use Rattle.profile.specs.RangeMore.{count-lt}
 use Rattle.profile.specs.Profile.{half_at}
 use Rattle.lookup.specs.Lookup.{of_part, reach, scenes_of, position}
@@ -39,19 +38,19 @@ module _ (s : List ℕ) (b : ℕ) where
     name_done n e q = gather-past (of_part s 4 b) (λ j. half_at s j 4) 65535 (reach s 4) n (rw (e, ← w.is) q)
 
     -- `scene_position`: none of the first m has the name
-    module _ (name : ℕ) (none : first m (λ i. eqb (get_or (scenes_of s b) i 65535) name) ≡ Nothing) where
-      pub position-hit : (x : ℕ) → k < reach s 4 → of_part s 4 b k ≡ true → x ≡ half_at s k 4 → x ≡ name → At m ≡ position name (scenes_of s b)
+    module _ (name : ℕ) (none : first m (λ i. eqb (get_or (scenes_of s b) i 65535) name) ≡ None) where
+      pub position-hit : (x : ℕ) → k < reach s 4 → of_part s 4 b k ≡ true → x ≡ half_at s k 4 → x ≡ name → Some m ≡ position name (scenes_of s b)
       unfolding position
       position-hit x l e h q =
           first-hit (λ i. eqb (get_or (scenes_of s b) i 65535) name) (length (scenes_of s b)) m none
           (eq-eqb (get_or (scenes_of s b) m 65535) name (sym (scene_here l e) ∙ sym h ∙ q)) (scene-lt l e)
 
       pub position-more : (x : ℕ) → k < reach s 4 → of_part s 4 b k ≡ true → x ≡ half_at s k 4 → (x ≡ name → ⊥) →
-          first (m + 1) (λ i. eqb (get_or (scenes_of s b) i 65535) name) ≡ Nothing
+          first (m + 1) (λ i. eqb (get_or (scenes_of s b) i 65535) name) ≡ None
       position-more x l e h q =
           first_more (λ i. eqb (get_or (scenes_of s b) i 65535) name) m none
           (ne_eqb (get_or (scenes_of s b) m 65535) name (λ r. q (h ∙ scene_here l e ∙ r)))
 
-      pub position-done : reach s 4 ≡ k → Nothing ≡ position name (scenes_of s b)
+      pub position-done : reach s 4 ≡ k → None ≡ position name (scenes_of s b)
       unfolding position
       position-done e = rw (← scenes-counted e) (sym none)

@@ -1,14 +1,12 @@
 -- More of `first`. Assumes nothing.
 use Prim.Native.Nat.{ℕ, zero, suc, ◌≤◌, ◌<◌}
-use Rattle.std.specs.Prelude.{◌≡◌, Bool, true, false}
+use Rattle.std.specs.Prelude.{◌≡◌, Bool, true, false, None, Option, Some}
 use Rattle.std.proofs.Math.Path.{refl}
 use Rattle.std.proofs.Common.{◌∙◌, ⊎_elim, eq-or-lt_of_le, le_of_suc-le-suc, le_antisymm, arith}
 use Rattle.base.specs.First.{first, or_else}
-use Rattle.base.specs.declared.Place.{Place}
-use Rattle.base.specs.declared.Place.TheVariants.{At, Nothing}
 
 module _ (p : ℕ → Bool) where
-  pub first-nothing : (n : ℕ) → ((k : ℕ) → k < n → p k ≡ false) → first n p ≡ Nothing
+  pub first-nothing : (n : ℕ) → ((k : ℕ) → k < n → p k ≡ false) → first n p ≡ None
   unfolding first
   first-nothing zero h = refl
   first-nothing (suc n) h = rw (first-nothing n (λ k l. h k (omega arith)), h n (omega arith))
@@ -36,6 +34,6 @@ first_short p m (suc n) l h =
     ∙ rw (not_behind (p n) m n (h n (omega arith)) (omega arith)) (same (first n p)))
     (eq-or-lt_of_le l)
   where
-    same : (f : Place) → f ≡ or_else f Nothing
-    same (At k) = refl
-    same Nothing = refl
+    same : (f : Option ℕ) → f ≡ or_else f None
+    same (Some k) = refl
+    same None = refl

@@ -1,21 +1,18 @@
 -- What a loop that counts up shows of `gather`. Assumes nothing.
 use Prim.Native.Nat.{ℕ, ◌+◌, ◌≤◌}
-use Rattle.std.specs.Prelude.{◌≡◌, Bool}
+use Rattle.std.specs.Prelude.{◌≡◌, Bool, None, Option, Some}
 use Rattle.std.proofs.Math.Path.{refl, sym}
 use Rattle.std.proofs.Common.{add-zero, arith}
 use Rattle.std.proofs.Math.Bool.{true, false}
 use mathlib.Core.List.{[]}
-use Rattle.std.proofs.Math.Option.{Option, none, some}
 use Rattle.base.specs.Range.{count, bit}
 use Rattle.base.specs.RangeLaws.{bit_le, count_none, count-more}
-use Rattle.base.specs.declared.Place.{Place}
-use Rattle.base.specs.declared.Place.TheVariants.{At, Nothing}
 use Rattle.lookup.specs.Gather.{gather}
 
 -- what is found in such a list, by the number that it came from
-abbrev pub from : {A : Type 0} → (ℕ → A) → Place → Option A
-from g (At k) = some (g k)
-from g Nothing = none
+abbrev pub from : {A : Type 0} → (ℕ → A) → Option ℕ → Option A
+from g (Some k) = Some (g k)
+from g None = None
 
 module _ {A : Type 0} (p : ℕ → Bool) (g : ℕ → A) where
   pub gather_none : gather 0 p g ≡ []

@@ -1,12 +1,10 @@
 -- What is known of what an accepted profile's lookups find. Assumes nothing.
-use Rattle.std.specs.Prelude.{ℕ, ◌≤◌, ◌<◌, ◌≡◌, refl, List, ◌⊎◌}
+use Rattle.std.specs.Prelude.{ℕ, ◌≤◌, ◌<◌, ◌≡◌, refl, List, ◌⊎◌, None, Option, Some}
 use Rattle.std.proofs.Common.{inr, arith}
 use borrow.Author.Tests.{le-ltb, eqb-true}
 use Rattle.base.specs.RangeLaws.{every-at}
 use Rattle.base.specs.First.{first}
 use Rattle.base.specs.FirstLaws.{until-behind}
-use Rattle.base.specs.declared.Place.{Place}
-use Rattle.base.specs.declared.Place.TheVariants.{At, Nothing}
 use Rattle.profile.specs.Profile.{records, byte_at, verdict}
 use Rattle.profile.specs.Fields.{bank_at_lem}
 use Rattle.profile.specs.Accepted.{accepted, kinds_rise}
@@ -34,9 +32,9 @@ module _ (s : List ℕ) (ok : verdict s ≡ 0) where
 
 module _ (s : List ℕ) (ok : verdict s ≡ 0) where
   -- a bank has a driver of 0 to 15 or none
-  device_found : (b : ℕ) (p : Place) → entry s 1 b 0 ≡ p → (half_of s 6 65535 p ≤ 15) ⊎ (half_of s 6 65535 p ≡ 65535)
-  device_found b (At k) q = let w = entry-is s 1 b 0 k q in (bank_at_lem s (accepted s ok).fields k w.in_file w.kind_is).driver
-  device_found b Nothing q = inr refl
+  device_found : (b : ℕ) (p : Option ℕ) → entry s 1 b 0 ≡ p → (half_of s 6 65535 p ≤ 15) ⊎ (half_of s 6 65535 p ≡ 65535)
+  device_found b (Some k) q = let w = entry-is s 1 b 0 k q in (bank_at_lem s (accepted s ok).fields k w.in_file w.kind_is).driver
+  device_found b None q = inr refl
 
   pub known-device : (b : ℕ) → (device_of s b ≤ 15) ⊎ (device_of s b ≡ 65535)
   known-device b = device_found b (entry s 1 b 0) refl

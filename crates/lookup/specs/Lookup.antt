@@ -1,20 +1,13 @@
 -- What each lookup finds. Definitions only. A part is a bank, by its number, or the globals, 255.
-use Rattle.std.specs.Prelude.{ℕ, ◌≤◌, ◌≡◌, ◌⊎◌, Bool, ◌&&◌, List, [], ◌∷◌, map, eqb, leb, ltb, length, get_or, take}
+use Rattle.std.specs.Prelude.{ℕ, ◌≤◌, ◌≡◌, ◌⊎◌, Bool, ◌&&◌, List, [], ◌∷◌, map, eqb, leb, ltb, length, get_or, take, None, Option, Some}
 use Rattle.std.specs.Bool.{beq}
-use Rattle.std.proofs.Math.Option.{Option, none, some}
 use Rattle.base.specs.Range.{all, count, every}
 use Rattle.base.specs.First.{first, until, or_else}
 use Rattle.base.specs.Keyed.{find, change}
-use Rattle.base.specs.declared.Place.{Place}
-use Rattle.base.specs.declared.Place.TheVariants.{At, Nothing}
 use Rattle.float.specs.Leaf.{same_range}
 use Rattle.profile.specs.Profile.{records, byte_at, half_at, double_at, is_kind, bank_count}
 use Rattle.lookup.specs.declared.Destination.{Destination}
 use Rattle.lookup.specs.declared.Command.{Command}
-use Rattle.lookup.specs.declared.Found.{Found}
-use Rattle.lookup.specs.declared.Found.TheVariants as found
-use Rattle.lookup.specs.declared.Bound.{Bound}
-use Rattle.lookup.specs.declared.Bound.TheVariants as bound
 use Rattle.lookup.specs.declared.Entry.{Entry}
 use Rattle.lookup.specs.declared.Drivers.{Drivers}
 use Rattle.lookup.specs.Gather.{gather}
@@ -35,7 +28,7 @@ unfoldable pub reach : List ℕ → ℕ → ℕ
 reach s kind = until (records s) (is_past s kind)
 
 -- the first such record
-unfoldable pub entry : List ℕ → ℕ → ℕ → ℕ → Place
+unfoldable pub entry : List ℕ → ℕ → ℕ → ℕ → Option ℕ
 entry s kind part number = first (reach s kind) (is_entry s kind part number)
 
 -- record k is of the kind and belongs to the part
@@ -43,13 +36,13 @@ abbrev pub of_part : List ℕ → ℕ → ℕ → ℕ → Bool
 of_part s kind part k = is_kind s kind k && eqb (byte_at s k 1) part
 
 -- a field of a record that may not be there, d if it is not
-abbrev pub half_of : List ℕ → ℕ → ℕ → Place → ℕ
-half_of s o d (At k) = half_at s k o
-half_of s o d Nothing = d
+abbrev pub half_of : List ℕ → ℕ → ℕ → Option ℕ → ℕ
+half_of s o d (Some k) = half_at s k o
+half_of s o d None = d
 
-abbrev pub byte_of : List ℕ → ℕ → ℕ → Place → ℕ
-byte_of s o d (At k) = byte_at s k o
-byte_of s o d Nothing = d
+abbrev pub byte_of : List ℕ → ℕ → ℕ → Option ℕ → ℕ
+byte_of s o d (Some k) = byte_at s k o
+byte_of s o d None = d
 
 -- ── settings: the first record ──
 
@@ -62,7 +55,7 @@ remember_of s = eqb (byte_at s 0 3) 1
 -- ── banks ──
 
 -- the record of bank b: its byte 2 is unused, 0
-abbrev pub bank_at : List ℕ → ℕ → Place
+abbrev pub bank_at : List ℕ → ℕ → Option ℕ
 bank_at s b = entry s 1 b 0
 
 -- name, own driver and `live`, 65535 where there is none
@@ -84,7 +77,7 @@ abbrev pub select_of : List ℕ → ℕ → Bool
 select_of s b = eqb (byte_of s 11 0 (bank_at s b)) 1
 
 -- the first bank of the name
-unfoldable pub bank_named : List ℕ → ℕ → Place
+unfoldable pub bank_named : List ℕ → ℕ → Option ℕ
 bank_named s name = first (bank_count s) (λ b. eqb (name_of s b) name)
 
 -- ── faders and encoders ──
@@ -103,27 +96,27 @@ dest_at s k =
       high = double_at s k 24;
     }
 
-abbrev pub found_at : List ℕ → Place → Found
-found_at s (At k) = found.To (dest_at s k)
-found_at s Nothing = found.Nothing
+abbrev pub found_at : List ℕ → Option ℕ → Option Destination
+found_at s (Some k) = Some (dest_at s k)
+found_at s None = None
 
 -- the control of the part with the number: kind 2 is a fader, 3 an encoder
-unfoldable pub control_of : List ℕ → ℕ → ℕ → ℕ → Found
+unfoldable pub control_of : List ℕ → ℕ → ℕ → ℕ → Option Destination
 control_of s kind part number = found_at s (entry s kind part number)
 
-abbrev pub fader_of : List ℕ → ℕ → ℕ → Found
+abbrev pub fader_of : List ℕ → ℕ → ℕ → Option Destination
 fader_of s part number = control_of s 2 part number
 
-abbrev pub encoder_of : List ℕ → ℕ → ℕ → Found
+abbrev pub encoder_of : List ℕ → ℕ → ℕ → Option Destination
 encoder_of s part number = control_of s 3 part number
 
 -- "Globals precede the bank": the first of the two that is there
-abbrev pub precede : Found → Found → Found
-precede (found.To d) f = found.To d
-precede found.Nothing f = f
+abbrev pub precede : Option Destination → Option Destination → Option Destination
+precede (Some d) f = Some d
+precede None f = f
 
 -- the record of the encoder in reach: the globals' or else the bank's
-unfoldable pub encoder_place : List ℕ → ℕ → ℕ → Place
+unfoldable pub encoder_place : List ℕ → ℕ → ℕ → Option ℕ
 encoder_place s bank number = or_else (entry s 3 255 number) (entry s 3 bank number)
 
 -- Rust's `==` on every field, f64 by its own equality
@@ -146,7 +139,7 @@ unfoldable pub scenes_of : List ℕ → ℕ → List ℕ
 scenes_of s b = gather (reach s 4) (of_part s 4 b) (λ k. half_at s k 4)
 
 -- the first position of a name in a list of names
-unfoldable pub position : ℕ → List ℕ → Place
+unfoldable pub position : ℕ → List ℕ → Option ℕ
 position name l = first (length l) (λ i. eqb (get_or l i 65535) name)
 
 -- ── transport ──
@@ -165,18 +158,18 @@ transports_of s part = gather (reach s 5) (of_part s 5 part) (entry_at s)
 abbrev pub of_kind : ℕ → Entry → Bool
 of_kind kind e = eqb e.kind kind
 
-abbrev pub bound_by : Option Entry → Bound
-bound_by (some e) = bound.Run e.command
-bound_by none = bound.Nothing
+abbrev pub bound_by : Option Entry → Option Command
+bound_by (Some e) = Some e.command
+bound_by None = None
 
 -- the first of its kind in a list of transport buttons
-unfoldable pub transport_of : ℕ → List Entry → Bound
+unfoldable pub transport_of : ℕ → List Entry → Option Command
 transport_of kind l = bound_by (find (of_kind kind) l)
 
 -- "Globals precede the bank"
-abbrev pub before : Bound → Bound → Bound
-before (bound.Run c) b = bound.Run c
-before bound.Nothing b = b
+abbrev pub before : Option Command → Option Command → Option Command
+before (Some c) b = Some c
+before None b = b
 
 -- "a global entry replaces the first of its kind there, or else comes behind"
 unfoldable pub place : Entry → List Entry → List Entry
@@ -210,9 +203,9 @@ times x l = count (length l) (λ i. eqb (get_or l i 0) x)
 unfoldable pub top_at : List ℕ → ℕ → Bool
 top_at l i = all (length l) (λ j. leb (times (get_or l j 0) l) (times (get_or l i 0) l))
 
-abbrev pub value_at : List ℕ → Place → ℕ
-value_at l (At i) = get_or l i 0
-value_at l Nothing = 65535
+abbrev pub value_at : List ℕ → Option ℕ → ℕ
+value_at l (Some i) = get_or l i 0
+value_at l None = 65535
 
 -- a driver's number, or that of none
 abbrev pub MayBeDriver : ℕ → Type 0

@@ -1,15 +1,11 @@
 -- How far a lookup goes, and what is known of a record that it finds. Assumes nothing.
-use Rattle.std.specs.Prelude.{ℕ, ◌≤◌, ◌<◌, ◌≡◌, refl, true, false, List}
+use Rattle.std.specs.Prelude.{ℕ, ◌≤◌, ◌<◌, ◌≡◌, refl, true, false, List, None, Option, Some}
 use Rattle.std.proofs.Common.{sym, ◌∙◌, lt_of_lt_of_le, eqb-true, eq-eqb}
 use Rattle.base.specs.RangeLaws.{every-at}
 use Rattle.base.specs.First.{first, or_else}
 use Rattle.base.specs.FirstLaws.{first-at, first-hit, until-le, until_here, until-done, until_on}
-use Rattle.base.specs.declared.Place.{Place}
-use Rattle.base.specs.declared.Place.TheVariants.{At, Nothing}
 use Rattle.profile.specs.Profile.{records, byte_at, is_kind}
 use Rattle.lookup.specs.declared.Command.{Command}
-use Rattle.lookup.specs.declared.Bound.{Bound}
-use Rattle.lookup.specs.declared.Bound.TheVariants as bound
 use Rattle.lookup.specs.Lookup.{is_entry, is_past, reach, entry, found_at, control_of, encoder_of, precede, encoder_place, before}
 
 -- ── how far a lookup goes ──
@@ -20,7 +16,7 @@ unfolding reach
 reach-le s kind = until-le (is_past s kind) (records s)
 
 -- a loop that has met no record of a higher kind before k: record k is one, the file ends at k, or the loop goes on behind k
-module _ (s : List ℕ) (kind k : ℕ) (none : first k (is_past s kind) ≡ Nothing) where
+module _ (s : List ℕ) (kind k : ℕ) (none : first k (is_past s kind) ≡ None) where
   pub reach_here : is_past s kind k ≡ true → k < records s → reach s kind ≡ k
   unfolding reach
   reach_here = until_here (is_past s kind) (records s) k none
@@ -34,12 +30,12 @@ module _ (s : List ℕ) (kind k : ℕ) (none : first k (is_past s kind) ≡ Noth
   reach_on q l = until_on (is_past s kind) (records s) k l none q
 
 -- `find`: the record at which it stands is the one, or there is none
-module _ (s : List ℕ) (kind part number k : ℕ) (none : first k (is_entry s kind part number) ≡ Nothing) where
-  pub entry-hit : k < reach s kind → is_entry s kind part number k ≡ true → At k ≡ entry s kind part number
+module _ (s : List ℕ) (kind part number k : ℕ) (none : first k (is_entry s kind part number) ≡ None) where
+  pub entry-hit : k < reach s kind → is_entry s kind part number k ≡ true → Some k ≡ entry s kind part number
   unfolding entry
   entry-hit l e = first-hit (is_entry s kind part number) (reach s kind) k none e l
 
-  pub entry-none : reach s kind ≡ k → Nothing ≡ entry s kind part number
+  pub entry-none : reach s kind ≡ k → None ≡ entry s kind part number
   unfolding entry
   entry-none e = rw e (sym none)
 
@@ -52,7 +48,7 @@ pub record Is (s : List ℕ) (kind part number k : ℕ) : Type 0 where
   pub part_is : byte_at s k 1 ≡ part
   pub number_is : byte_at s k 2 ≡ number
 
-pub entry-is : (s : List ℕ) (kind part number k : ℕ) → entry s kind part number ≡ At k → Is s kind part number k
+pub entry-is : (s : List ℕ) (kind part number k : ℕ) → entry s kind part number ≡ Some k → Is s kind part number k
 unfolding entry
 entry-is s kind part number k e =
     let w = first-at (is_entry s kind part number) (reach s kind) k e in
@@ -64,40 +60,40 @@ entry-is s kind part number k e =
     }
 
 -- the same, as a call of `find` leaves it
-pub entry_in : (s : List ℕ) (kind part number k : ℕ) (f : Place) → f ≡ entry s kind part number → f ≡ At k → k < records s
+pub entry_in : (s : List ℕ) (kind part number k : ℕ) (f : Option ℕ) → f ≡ entry s kind part number → f ≡ Some k → k < records s
 entry_in s kind part number k f e q = (entry-is s kind part number k (sym e ∙ q)).in_file
 
 -- "Globals precede the bank": r is what the globals have, h what the bank has
-pub runs_there : (r f g : Bound) (c : Command) → r ≡ f → r ≡ bound.Run c → bound.Run c ≡ before f g
+pub runs_there : (r f g : Option Command) (c : Command) → r ≡ f → r ≡ Some c → Some c ≡ before f g
 runs_there r f g c e q = rw (← e, q)
 
-pub runs_elsewhere : (r f g h : Bound) → r ≡ f → r ≡ bound.Nothing → h ≡ g → h ≡ before f g
+pub runs_elsewhere : (r f g h : Option Command) → r ≡ f → r ≡ None → h ≡ g → h ≡ before f g
 runs_elsewhere r f g h e q p = rw (← e, q) p
 
-pub place_there : (r f g : Place) (k : ℕ) → r ≡ f → r ≡ At k → At k ≡ or_else f g
+pub place_there : (r f g : Option ℕ) (k : ℕ) → r ≡ f → r ≡ Some k → Some k ≡ or_else f g
 place_there r f g k e q = rw (← e, q)
 
-pub place_elsewhere : (r f g h : Place) → r ≡ f → r ≡ Nothing → h ≡ g → h ≡ or_else f g
+pub place_elsewhere : (r f g h : Option ℕ) → r ≡ f → r ≡ None → h ≡ g → h ≡ or_else f g
 place_elsewhere r f g h e q p = rw (← e, q) p
 
 -- ── the encoder in reach ──
 
-found_or : (s : List ℕ) (f g : Place) → found_at s (or_else f g) ≡ precede (found_at s f) (found_at s g)
-found_or s (At k) g = refl
-found_or s Nothing g = refl
+found_or : (s : List ℕ) (f g : Option ℕ) → found_at s (or_else f g) ≡ precede (found_at s f) (found_at s g)
+found_or s (Some k) g = refl
+found_or s None g = refl
 
 -- its record has its destination
 pub encoder_place_found : (s : List ℕ) (bank number : ℕ) → found_at s (encoder_place s bank number) ≡ precede (encoder_of s 255 number) (encoder_of s bank number)
 unfolding encoder_place control_of
 encoder_place_found s bank number = found_or s (entry s 3 255 number) (entry s 3 bank number)
 
-one_of : (s : List ℕ) (bank number k : ℕ) (f : Place) → f ≡ entry s 3 255 number → or_else f (entry s 3 bank number) ≡ At k → (k < records s) × (is_kind s 3 k ≡ true)
-one_of s bank number k (At j) e q =
+one_of : (s : List ℕ) (bank number k : ℕ) (f : Option ℕ) → f ≡ entry s 3 255 number → or_else f (entry s 3 bank number) ≡ Some k → (k < records s) × (is_kind s 3 k ≡ true)
+one_of s bank number k (Some j) e q =
     let w = entry-is s 3 255 number k (sym e ∙ q) in (w.in_file, eq-eqb (byte_at s k 0) 3 w.kind_is)
-one_of s bank number k Nothing e q =
+one_of s bank number k None e q =
     let w = entry-is s 3 bank number k q in (w.in_file, eq-eqb (byte_at s k 0) 3 w.kind_is)
 
 -- it is in the file, and an encoder's
-pub encoder-place-is : (s : List ℕ) (bank number k : ℕ) → encoder_place s bank number ≡ At k → (k < records s) × (is_kind s 3 k ≡ true)
+pub encoder-place-is : (s : List ℕ) (bank number k : ℕ) → encoder_place s bank number ≡ Some k → (k < records s) × (is_kind s 3 k ≡ true)
 unfolding encoder_place
 encoder-place-is s bank number k q = one_of s bank number k (entry s 3 255 number) refl q

@@ -1,12 +1,11 @@
 -- Document 01's own profile, examined and looked up by the prover: the definitions computed at their bytes. Assumes nothing.
-use Rattle.std.specs.Prelude.{ℕ, ◌≡◌, refl, List, [], ◌∷◌, ◌++◌, true, replicate}
+use Rattle.std.specs.Prelude.{ℕ, ◌≡◌, refl, List, [], ◌∷◌, ◌++◌, true, replicate, None, Some}
 use Rattle.std.specs.Float.Ieee.{of_bits}
 use Rattle.std.specs.Float.{binary64}
 use Rattle.base.specs.Range.{all, any, count, every}
 use Rattle.base.specs.First.{first, until}
 use Rattle.base.specs.Words.{le64}
 use Rattle.profile.specs.Profile.{verdict, fields_ok, record_ok, ok_as, kind_count, order_ok, ordered_at, control, once_each, limits_ok, at_most, count_of, finite_ok, ends_finite}
-use Rattle.lookup.specs.declared.Found.TheVariants as found
 use Rattle.lookup.specs.Lookup.{reach, entry, control_of}
 use Rattle.lookup.specs.View.{view_of}
 
@@ -45,10 +44,10 @@ declined_endless = refl
 
 -- what is looked up: bank 0's fader 1, and no other
 bound : ((view_of profile).here 0).fader 1
-    ≡ found.To (record { driver = 3; target = 7; label = 0; group = 0; mute = 65535; takeover = true; low = of_bits binary64 0; high = of_bits binary64 0x3ff0_0000_0000_0000 })
+    ≡ Some (record { driver = 3; target = 7; label = 0; group = 0; mute = 65535; takeover = true; low = of_bits binary64 0; high = of_bits binary64 0x3ff0_0000_0000_0000 })
 unfolding zeros settings bank fader profile every first until reach entry control_of le64
 bound = refl
 
-unbound : ((view_of profile).here 0).fader 2 ≡ found.Nothing
+unbound : ((view_of profile).here 0).fader 2 ≡ None
 unfolding zeros settings bank fader profile every first until reach entry control_of
 unbound = refl

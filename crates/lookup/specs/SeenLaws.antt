@@ -1,8 +1,7 @@
 -- A list that is kept as the first n of an array of numbers, each standing for something: how a search among them counts up. Assumes nothing.
-use Rattle.std.specs.Prelude.{ℕ, zero, suc, ◌+◌, ◌≤◌, ◌<◌, ◌≡◌, refl, Bool, true, false, List, [], ◌∷◌, ◌++◌, map, length, get_or, take, set}
+use Rattle.std.specs.Prelude.{ℕ, zero, suc, ◌+◌, ◌≤◌, ◌<◌, ◌≡◌, refl, Bool, true, false, List, [], ◌∷◌, ◌++◌, map, length, get_or, take, set, None, Some}
 use Rattle.std.proofs.Common.{sym, ap, ◌∙◌, subst, add-one, arith, take-suc-set, get_or-take}
 use Rattle.std.proofs.lemmas.List.{map-append, length-map}
-use Rattle.std.proofs.Math.Option.{none, some}
 use Rattle.std.proofs.Math.ListN.{get_or-map}
 use Rattle.base.specs.Keyed.{at, find, change}
 use Rattle.base.specs.KeyedLaws as laws
@@ -42,10 +41,10 @@ module _ {A : Type 0} (g : ℕ → A) (f : A → Bool) (xs : List ℕ) where
     pub within : k ≤ n
     within = laws.found_le f (g 0) (map g xs) n k seen long
 
-    pub found : k < n → find f (map g (take n xs)) ≡ some (g (get_or xs k 0))
-    found h = ap (find f) (map-take g n xs) ∙ laws.found f (g 0) (map g xs) n k seen long h ∙ ap some (get_or-map g xs k 0)
+    pub found : k < n → find f (map g (take n xs)) ≡ Some (g (get_or xs k 0))
+    found h = ap (find f) (map-take g n xs) ∙ laws.found f (g 0) (map g xs) n k seen long h ∙ ap Some (get_or-map g xs k 0)
 
-    pub not_found : n ≤ k → find f (map g (take n xs)) ≡ none
+    pub not_found : n ≤ k → find f (map g (take n xs)) ≡ None
     not_found h = ap (find f) (map-take g n xs) ∙ laws.not_found f (g 0) (map g xs) n k seen long h
 
     -- one more comes behind

@@ -1,9 +1,8 @@
 -- The profile as the definition of an event has it: one record of lookups. A handler takes the part of the current bank and the globals, so that what
 -- another bank holds cannot matter to it. Definitions only.
-use Rattle.std.specs.Prelude.{ℕ, Bool, List}
-use Rattle.base.specs.declared.Place.{Place}
+use Rattle.std.specs.Prelude.{ℕ, Bool, List, Option}
 use Rattle.profile.specs.Profile.{bank_count}
-use Rattle.lookup.specs.declared.Found.{Found}
+use Rattle.lookup.specs.declared.Destination.{Destination}
 use Rattle.lookup.specs.declared.Entry.{Entry}
 use Rattle.lookup.specs.Lookup.{positions_of, remember_of, name_of, device_of, live_of, rec_of, select_of, fader_of, encoder_of, scenes_of, transports_of, button_of, bank_named}
 
@@ -18,8 +17,8 @@ pub record Part : Type 0 where
   pub rec : ℕ
   pub select : Bool
   -- by number
-  pub fader : ℕ → Found
-  pub encoder : ℕ → Found
+  pub fader : ℕ → Option Destination
+  pub encoder : ℕ → Option Destination
   -- in file order
   pub scenes : List ℕ
   pub transports : List Entry
@@ -31,7 +30,7 @@ pub record View : Type 0 where
   pub banks : ℕ
   -- the name of a bank, and the first bank of a name
   pub name : ℕ → ℕ
-  pub named : ℕ → Place
+  pub named : ℕ → Option ℕ
   pub globals : Part
   pub here : ℕ → Part
   -- the default command of a driver and a kind of button, 65535 if there is none

@@ -32,18 +32,6 @@ pub struct Command {
     pub command: u16,
 }
 
-#[derive(Clone, Copy)]
-pub enum Found {
-    To(Destination),
-    Nothing,
-}
-
-#[derive(Clone, Copy)]
-pub enum Bound {
-    Run(Command),
-    Nothing,
-}
-
 // A transport button and what it runs.
 #[derive(Clone, Copy)]
 pub struct Entry {
@@ -101,21 +89,21 @@ fn is_past(s: &[u8], kind: u8, k: usize) -> bool
 }
 
 // The first record of the kind, the part and the number.
-fn find(s: &[u8], kind: u8, part: u8, number: u8) -> base::Place
+fn find(s: &[u8], kind: u8, part: u8, number: u8) -> Option<usize>
     ensures { result ≡ entry s.now kind part number }
 {
     let n = s.len() / 32;
     let mut k = 0;
     while k < n {
         if is_past(s, kind, k) {
-            return base::Place::Nothing;
+            return None;
         }
         if is_entry(s, kind, part, number, k) {
-            return base::Place::At(k);
+            return Some(k);
         }
         k += 1;
     }
-    base::Place::Nothing
+    None
 }
 
 fn of_part(s: &[u8], kind: u8, part: u8, k: usize) -> bool
@@ -131,8 +119,8 @@ fn half_of(s: &[u8], kind: u8, part: u8, number: u8, o: usize) -> u16
     ensures { result ≡ half_of s.now o 65535 (entry s.now kind part number) }
 {
     match find(s, kind, part, number) {
-        base::Place::At(k) => profile::view::half(s, k, o),
-        base::Place::Nothing => ABSENT,
+        Some(k) => profile::view::half(s, k, o),
+        None => ABSENT,
     }
 }
 
@@ -142,8 +130,8 @@ fn bank_byte(s: &[u8], bank: u8, o: usize) -> u8
     ensures { result ≡ byte_of s.now o 0 (bank_at s.now bank) }
 {
     match find(s, 1, bank, 0) {
-        base::Place::At(k) => profile::view::byte(s, k, o),
-        base::Place::Nothing => 0,
+        Some(k) => profile::view::byte(s, k, o),
+        None => 0,
     }
 }
 
@@ -230,22 +218,22 @@ pub fn destination_at(s: &[u8], k: usize) -> Destination
 }
 
 // A fader of one bank or of the globals.
-pub fn fader(profile: &[u8], bank: u8, number: u8) -> Found
+pub fn fader(profile: &[u8], bank: u8, number: u8) -> Option<Destination>
     ensures { result ≡ fader_of profile.now bank number }
 {
     match find(profile, 2, bank, number) {
-        base::Place::At(k) => Found::To(destination_at(profile, k)),
-        base::Place::Nothing => Found::Nothing,
+        Some(k) => Some(destination_at(profile, k)),
+        None => None,
     }
 }
 
 // The record of the globals' encoder or else of the bank's.
-pub fn encoder_record(profile: &[u8], bank: u8, number: u8) -> base::Place
+pub fn encoder_record(profile: &[u8], bank: u8, number: u8) -> Option<usize>
     ensures { result ≡ encoder_place profile.now bank number }
 {
     match find(profile, 3, GLOBALS, number) {
-        base::Place::At(k) => base::Place::At(k),
-        base::Place::Nothing => find(profile, 3, bank, number),
+        Some(k) => Some(k),
+        None => find(profile, 3, bank, number),
     }
 }
 
@@ -304,7 +292,7 @@ pub fn scene_name(profile: &[u8], bank: u8, n: usize) -> u16
 }
 
 // The first position of a name in the bank's list of scenes.
-pub fn scene_position(profile: &[u8], bank: u8, name: u16) -> base::Place
+pub fn scene_position(profile: &[u8], bank: u8, name: u16) -> Option<usize>
     ensures { result ≡ position name (scenes_of profile.now bank) }
 {
     let end = profile.len() / 32;
@@ -313,17 +301,17 @@ pub fn scene_position(profile: &[u8], bank: u8, name: u16) -> base::Place
     while k < end {
         let i = k;
         if is_past(profile, 4, i) {
-            return base::Place::Nothing;
+            return None;
         }
         k += 1;
         if of_part(profile, 4, bank, i) {
             if profile::view::half(profile, i, 4) == name {
-                return base::Place::At(m);
+                return Some(m);
             }
             m += 1;
         }
     }
-    base::Place::Nothing
+    None
 }
 
 // ── default buttons ──
@@ -338,7 +326,7 @@ pub fn default_command(profile: &[u8], driver: u8, kind: u8) -> u16
 // ── the names of banks ──
 
 // The first bank of the name.
-pub fn bank_named(profile: &[u8], name: u16) -> base::Place
+pub fn bank_named(profile: &[u8], name: u16) -> Option<usize>
     requires { verdict profile.now ≡ 0 }
     ensures { result ≡ bank_named profile.now name }
 {
@@ -346,11 +334,11 @@ pub fn bank_named(profile: &[u8], name: u16) -> base::Place
     let mut b: usize = 0;
     while b < n {
         if bank_name(profile, b as u8) == name {
-            return base::Place::At(b);
+            return Some(b);
         }
         b += 1;
     }
-    base::Place::Nothing
+    None
 }
 
 // ── transport ──
@@ -398,22 +386,22 @@ pub fn entry_at(s: &[u8], k: u16) -> Entry
 }
 
 // The first of its kind in one bank or in the globals.
-pub fn transport(profile: &[u8], bank: u8, kind: u8) -> Bound
+pub fn transport(profile: &[u8], bank: u8, kind: u8) -> Option<Command>
     ensures { result ≡ transport_of kind (transports_of profile.now bank) }
 {
     match find(profile, 5, bank, kind) {
-        base::Place::At(k) => Bound::Run(command_at(profile, k)),
-        base::Place::Nothing => Bound::Nothing,
+        Some(k) => Some(command_at(profile, k)),
+        None => None,
     }
 }
 
 // The globals' transport or else the bank's.
-pub fn transport_in_reach(profile: &[u8], bank: u8, kind: u8) -> Bound
+pub fn transport_in_reach(profile: &[u8], bank: u8, kind: u8) -> Option<Command>
     ensures { result ≡ before (transport_of kind (transports_of profile.now 255)) (transport_of kind (transports_of profile.now bank)) }
 {
     match transport(profile, GLOBALS, kind) {
-        Bound::Run(c) => Bound::Run(c),
-        Bound::Nothing => transport(profile, bank, kind),
+        Some(c) => Some(c),
+        None => transport(profile, bank, kind),
     }
 }
 

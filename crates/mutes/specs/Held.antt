@@ -1,9 +1,7 @@
 -- Room for what a mute silences. Definitions only.
-use Rattle.std.specs.Prelude.{ℕ, Bool, true, List}
+use Rattle.std.specs.Prelude.{ℕ, Bool, true, List, None, Option, Some}
 use Rattle.base.specs.Choice.{pick}
 use Rattle.lookup.specs.declared.Destination.{Destination}
-use Rattle.lookup.specs.declared.Found.{Found}
-use Rattle.lookup.specs.declared.Found.TheVariants as found
 use Rattle.session.specs.Session.{has_room}
 use Rattle.definition.specs.Levels.{kept_by, has_mute}
 
@@ -12,6 +10,6 @@ abbrev pub room_for : Destination → List ℕ → Bool
 room_for d l = pick (has_mute d) true (has_room (kept_by d) l)
 
 -- and a fader without a destination silences nothing
-abbrev pub room_at : Found → List ℕ → Bool
-room_at (found.To d) l = room_for d l
-room_at found.Nothing l = true
+abbrev pub room_at : Option Destination → List ℕ → Bool
+room_at (Some d) l = room_for d l
+room_at None l = true

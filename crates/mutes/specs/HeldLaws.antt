@@ -1,23 +1,18 @@
 -- Which targets are silenced, and room for one more. Assumes nothing.
-use Rattle.std.specs.Prelude.{◌≡◌, refl, Bool, true, false, List, [], ◌∷◌, ℕ, eqb, Float}
+use Rattle.std.specs.Prelude.{◌≡◌, refl, Bool, true, false, List, [], ◌∷◌, ℕ, eqb, Float, None, Option, Some}
 use Rattle.std.proofs.Common.{sym, subst, ◌∙◌}
-use Rattle.std.proofs.Math.Option.{some}
 use Rattle.base.specs.Choice.{pick}
 use Rattle.base.specs.Keyed.{find, any_of}
 use Rattle.lookup.specs.declared.Destination.{Destination}
-use Rattle.lookup.specs.declared.Found.{Found}
-use Rattle.lookup.specs.declared.Found.TheVariants as found
-use Rattle.drivers.specs.declared.Level.{Level}
-use Rattle.drivers.specs.declared.Level.TheVariants.{At, Unknown}
 use Rattle.session.specs.Session.{Hushed, targets_of, same_target, is_target, is_hushed, level_for, hushed_level, has_room}
 use Rattle.definition.specs.Levels.{kept_by, has_mute}
 use Rattle.mutes.specs.Held.{room_for, room_at}
 
 -- ── the silenced ──
 
-abbrev held : Level → Bool
-held (At x) = true
-held Unknown = false
+abbrev held : Option Float → Bool
+held (Some x) = true
+held None = false
 
 is_held : (target : ℕ) (s : List Hushed) → is_hushed target (targets_of s) ≡ held (hushed_level target s)
 unfolding is_hushed hushed_level find any_of
@@ -25,15 +20,15 @@ is_held target [] = refl
 is_held target (e ∷ s) = go (eqb e.target target) (is_held target s)
   where
     go : (b : Bool) → any_of (same_target target) (targets_of s) ≡ held (level_for (find (is_target target) s)) →
-        pick b true (any_of (same_target target) (targets_of s)) ≡ held (level_for (pick b (some e) (find (is_target target) s)))
+        pick b true (any_of (same_target target) (targets_of s)) ≡ held (level_for (pick b (Some e) (find (is_target target) s)))
     go true h = refl
     go false h = h
 
 -- a target is silenced exactly if its level is kept
-pub is_hushed_lem : (target : ℕ) (s : List Hushed) (l : Level) (x : Float) → l ≡ hushed_level target s → l ≡ At x → is_hushed target (targets_of s) ≡ true
+pub is_hushed_lem : (target : ℕ) (s : List Hushed) (l : Option Float) (x : Float) → l ≡ hushed_level target s → l ≡ Some x → is_hushed target (targets_of s) ≡ true
 is_hushed_lem target s l x e h = rw (is_held target s, ← e, h)
 
-pub not_hushed : (target : ℕ) (s : List Hushed) (l : Level) → l ≡ hushed_level target s → l ≡ Unknown → is_hushed target (targets_of s) ≡ false
+pub not_hushed : (target : ℕ) (s : List Hushed) (l : Option Float) → l ≡ hushed_level target s → l ≡ None → is_hushed target (targets_of s) ≡ false
 not_hushed target s l e h = rw (is_held target s, ← e, h)
 
 -- ── room ──
@@ -42,5 +37,5 @@ not_hushed target s l e h = rw (is_held target s, ← e, h)
 pub room_for_lem : (d : Destination) (l : List ℕ) (b : Bool) → b ≡ has_mute d → b ≡ false → room_for d l ≡ true → has_room (kept_by d) l ≡ true
 room_for_lem d l b e h r = subst (λ x. pick x true (has_room (kept_by d) l) ≡ true) (sym e ∙ h) r
 
-pub room_at_lem : (f g : Found) (d : Destination) (l : List ℕ) → f ≡ g → f ≡ found.To d → room_at g l ≡ true → room_for d l ≡ true
+pub room_at_lem : (f g : Option Destination) (d : Destination) (l : List ℕ) → f ≡ g → f ≡ Some d → room_at g l ≡ true → room_for d l ≡ true
 room_at_lem f g d l e h r = subst (λ x. room_at x l ≡ true) (sym e ∙ h) r

@@ -12,8 +12,8 @@ ghost use Rattle.definition.specs.Muting.{hand_back, keep_level, zeroed as zeroe
 ghost use Rattle.rig.specs.Seen.{rig_in};
 ghost use Rattle.mutes.specs.Held.{room_for, room_at};
 
-use drivers::{Io, Level};
-use lookup::{Destination, Found};
+use drivers::Io;
+use lookup::Destination;
 use rig::Current;
 use session::Lamps;
 
@@ -125,10 +125,10 @@ fn mute_at(
         };
     }
     match session::hushed_level(targets, levels, hushed, rig::levels::kept_by(dest)) {
-        Level::At(before) => hand_back(
+        Some(before) => hand_back(
             answers, calls, messages, io, dest, targets, levels, hushed, before,
         ),
-        Level::Unknown => zeroed(answers, calls, messages, io, dest, targets, levels, hushed),
+        None => zeroed(answers, calls, messages, io, dest, targets, levels, hushed),
     }
 }
 
@@ -151,7 +151,7 @@ pub fn mute(
     ensures messages_after { got (hushed_up_to result.hushed targets.new levels.new) (shown answers.now result.io calls.new messages.new) ≡ mute_of (rig_in profile.now here) fader lamps (hushed_up_to hushed targets.old levels.old) (shown answers.now io calls.old messages.old) }
     ensures hushed_bound_2 { result.hushed ≤ 256 }
 {
-    let Found::To(d) = rig::here::destination(profile, here, fader) else {
+    let Some(d) = rig::here::destination(profile, here, fader) else {
         return Muted {
             io: io,
             hushed: hushed,

@@ -1,4 +1,5 @@
 -- What is known of a note that was looked up, and a message as three stores. Assumes nothing.
+use Rattle.std.proofs.Common.{Some}
 use Prim.Native.Nat.{ℕ, zero, suc, ◌≤◌, ◌<◌}
 use mathlib.Core.Path.{◌≡◌, refl}
 use mathlib.Core.Bool.{Bool, true, ◌&&◌}
@@ -9,7 +10,6 @@ use lib.ListN.{length, get_or, set}
 use borrow.Author.Tests.{leb-true}
 use Rattle.base.specs.RangeLaws.{and_left, and_right}
 use Rattle.base.specs.FirstLaws.{first-at}
-use Rattle.base.specs.declared.Place.TheVariants.{At}
 use Rattle.base.specs.Tail.{at_front}
 use Rattle.protocol.specs.Protocol.{channel_bases, is_of_base, is_named, base_of, named_of, bytes_of}
 use Rattle.protocol.specs.declared.Out.{Out}
@@ -24,13 +24,13 @@ base_low (suc (suc (suc zero))) h = omega arith
 base_low (suc (suc (suc (suc k)))) h = absurd (omega arith)
 
 -- a base that has the note is one of the four, and starts at the note or below
-pub base_at : (note k : ℕ) → base_of note ≡ At k → (k < 4) × (get_or channel_bases k 0 ≤ note)
+pub base_at : (note k : ℕ) → base_of note ≡ Some k → (k < 4) × (get_or channel_bases k 0 ≤ note)
 unfolding base_of
 base_at note k e =
     let w = first-at (is_of_base note) 4 k e in
     (w.0, leb-true _ _ (and_left (leb (get_or channel_bases k 0) note) _ w.1))
 
-pub named-at : (note k : ℕ) → named_of note ≡ At k → k < 11
+pub named-at : (note k : ℕ) → named_of note ≡ Some k → k < 11
 unfolding named_of
 named-at note k e = (first-at (is_named note) 11 k e).0
 

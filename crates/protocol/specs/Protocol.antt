@@ -1,15 +1,11 @@
 -- Mackie Control, as the surface speaks it: what a message says, the notes and kinds of its buttons, and the messages that light its lamps and set its
 -- fader positions. Written from MIDI 1.0 and document 01, with protocol.rs beside it. Definitions only.
-use Rattle.std.specs.Prelude.{ℕ, ◌+◌, ◌-◌, ◌*◌, ◌/◌, ◌%◌, List, [], ◌∷◌, Bool, false, ◌&&◌, ℤ, pos, neg_ℤ, eqb, ltb, leb, length, get_or, Float}
+use Rattle.std.specs.Prelude.{ℕ, ◌+◌, ◌-◌, ◌*◌, ◌/◌, ◌%◌, List, [], ◌∷◌, Bool, false, ◌&&◌, ℤ, pos, neg_ℤ, eqb, ltb, leb, length, get_or, Float, None, Option, Some}
 use Rattle.base.specs.Choice.{pick}
 use Rattle.base.specs.First.{first}
-use Rattle.base.specs.declared.Place.{Place}
-use Rattle.base.specs.declared.Place.TheVariants as place
 use Rattle.float.specs.Leaf.{value_of, position_of}
 use Rattle.protocol.specs.declared.Event.{Event}
 use Rattle.protocol.specs.declared.Event.TheVariants as event
-use Rattle.protocol.specs.declared.Found.{Found}
-use Rattle.protocol.specs.declared.Found.TheVariants.{At, Nothing}
 use Rattle.protocol.specs.declared.Out.{Out}
 use Rattle.protocol.specs.declared.Out.TheVariants.{Led, Position}
 
@@ -32,36 +28,36 @@ abbrev pub is_named : ℕ → ℕ → Bool
 is_named note k = eqb (get_or named k 0) note
 
 -- the first base that has the note, and the first named button that has it
-unfoldable pub base_of : ℕ → Place
+unfoldable pub base_of : ℕ → Option ℕ
 base_of note = first 4 (is_of_base note)
 
-unfoldable pub named_of : ℕ → Place
+unfoldable pub named_of : ℕ → Option ℕ
 named_of note = first 11 (is_named note)
 
-abbrev pub kind_by : Place → Place → ℕ
-kind_by (place.At k) other = k
-kind_by place.Nothing (place.At k) = k + 4
-kind_by place.Nothing place.Nothing = 15
+abbrev pub kind_by : Option ℕ → Option ℕ → ℕ
+kind_by (Some k) other = k
+kind_by None (Some k) = k + 4
+kind_by None None = 15
 
 -- `Button::kind`: 0 to 3 a base, 4 to 14 a named button, 15 unknown
 unfoldable pub kind_of : ℕ → ℕ
 kind_of note = kind_by (base_of note) (named_of note)
 
-abbrev pub channel_by : ℕ → Place → Found
-channel_by note (place.At k) = At (note - get_or channel_bases k 0)
-channel_by note place.Nothing = Nothing
+abbrev pub channel_by : ℕ → Option ℕ → Option ℕ
+channel_by note (Some k) = Some (note - get_or channel_bases k 0)
+channel_by note None = None
 
 -- `Button::channel`: which of its base's eight a channel's button is
-unfoldable pub channel_of : ℕ → Found
+unfoldable pub channel_of : ℕ → Option ℕ
 channel_of note = channel_by note (base_of note)
 
 -- `note_of`: the note of a kind that is one single button
-unfoldable pub note_of : ℕ → Found
-note_of kind = pick (ltb kind 4) Nothing (pick (ltb kind 15) (At (get_or named (kind - 4) 0)) Nothing)
+unfoldable pub note_of : ℕ → Option ℕ
+note_of kind = pick (ltb kind 4) None (pick (ltb kind 15) (Some (get_or named (kind - 4) 0)) None)
 
 -- `transport_note`: the note that a transport button of the kind lights; a channel's kind lights its first
-unfoldable pub transport_note : ℕ → Found
-transport_note kind = pick (ltb kind 4) (At (get_or channel_bases kind 0)) (note_of kind)
+unfoldable pub transport_note : ℕ → Option ℕ
+transport_note kind = pick (ltb kind 4) (Some (get_or channel_bases kind 0)) (note_of kind)
 
 -- ── messages in ──
 

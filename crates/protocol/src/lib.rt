@@ -6,8 +6,6 @@ ghost use Rattle.std.specs.Prelude.{◌≡◌, ◌<◌, ◌≤◌, length, get_o
 ghost use Rattle.base.specs.Tail.{at_front};
 ghost use Rattle.protocol.specs.Protocol.{channel_bases, named, is_of_base, base_of, named_of, kind_of, channel_of, note_of, transport_note, delta_of, decode_of, velocity_of, bytes_of, heard_of, sent_to};
 
-use base::Place;
-
 // The first note of each channel's button: note = base + channel.
 pub const REC: u8 = 0x00;
 
@@ -65,13 +63,6 @@ const NAMED: [u8; 11] = [
 
 pub const UNKNOWN: u8 = 15;
 
-// A note or a channel, where there is one.
-#[derive(Clone, Copy)]
-pub enum Found {
-    At(u8),
-    Nothing,
-}
-
 // What the surface did. Channels count from 0; a fader's value is 0 to 1, an encoder's detents are negative to the left.
 #[derive(Clone, Copy)]
 pub enum Event {
@@ -113,42 +104,42 @@ fn is_of_base(note: u8, k: usize) -> bool
 }
 
 // The base that has the note among its eight.
-fn base_of(note: u8) -> Place
+fn base_of(note: u8) -> Option<usize>
     ensures { result ≡ base_of note }
 {
     let mut k: usize = 0;
     while k < 4 {
         if is_of_base(note, k) {
-            return Place::At(k);
+            return Some(k);
         }
         k += 1;
     }
-    Place::Nothing
+    None
 }
 
 // The named button that has the note.
-fn named_of(note: u8) -> Place
+fn named_of(note: u8) -> Option<usize>
     ensures { result ≡ named_of note }
 {
     let mut k: usize = 0;
     while k < 11 {
         if named_note(k) == note {
-            return Place::At(k);
+            return Some(k);
         }
         k += 1;
     }
-    Place::Nothing
+    None
 }
 
 impl Button {
     // Which channel a channel's button belongs to.
-    pub fn channel(self) -> Found
+    pub fn channel(self) -> Option<u8>
         ensures { result ≡ channel_of self.note }
     {
         let note = self.note;
         match base_of(note) {
-            Place::At(k) => Found::At(note - channel_base(k)),
-            Place::Nothing => Found::Nothing,
+            Some(k) => Some(note - channel_base(k)),
+            None => None,
         }
     }
 
@@ -157,36 +148,36 @@ impl Button {
     {
         let note = self.note;
         match base_of(note) {
-            Place::At(k) => k as u8,
-            Place::Nothing => match named_of(note) {
-                Place::At(k) => (k + 4) as u8,
-                Place::Nothing => UNKNOWN,
+            Some(k) => k as u8,
+            None => match named_of(note) {
+                Some(k) => (k + 4) as u8,
+                None => UNKNOWN,
             },
         }
     }
 }
 
 // The note of a kind that is one single button.
-pub fn note_of(kind: u8) -> Found
+pub fn note_of(kind: u8) -> Option<u8>
     ensures { result ≡ note_of kind }
 {
     if kind < 4 {
-        return Found::Nothing;
+        return None;
     }
     if kind < UNKNOWN {
         let k = (kind - 4) as usize;
-        return Found::At(named_note(k));
+        return Some(named_note(k));
     }
-    Found::Nothing
+    None
 }
 
 // The note that a transport button of the kind lights.
-pub fn transport_note(kind: u8) -> Found
+pub fn transport_note(kind: u8) -> Option<u8>
     ensures { result ≡ transport_note kind }
 {
     if kind < 4 {
         let k = kind as usize;
-        return Found::At(channel_base(k));
+        return Some(channel_base(k));
     }
     note_of(kind)
 }

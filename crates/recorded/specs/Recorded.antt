@@ -1,5 +1,5 @@
 -- A recording is computed over the definition: each event ends as the Rust's did. Definitions only.
-use Rattle.std.specs.Prelude.{ℕ, List, [], ◌∷◌, ◌++◌, map, Bool, true, ◌&&◌, length}
+use Rattle.std.specs.Prelude.{ℕ, List, [], ◌∷◌, ◌++◌, map, Bool, true, ◌&&◌, length, None, Option, Some}
 use Rattle.base.specs.Range.{bit}
 use Rattle.base.specs.Same.{same_list}
 use Rattle.lookup.specs.View.{View, view_of}
@@ -7,9 +7,8 @@ use Rattle.drivers.specs.Bytes.{joined}
 use Rattle.drivers.specs.declared.Call.{Call}
 use Rattle.session.specs.Session.{fresh_session}
 use Rattle.event.specs.Event.{read_of}
-use Rattle.event.specs.declared.Read.{Read}
-use Rattle.event.specs.declared.Read.TheVariants.{Known, Unknown}
 use Rattle.definition.specs.Step.{Kept, Ended, done, refused, waiting, Stepped, stepped, seen, step}
+use Rattle.event.specs.declared.Timed.{Timed}
 
 -- an event and the answers that it is offered with, as bytes; how it must end
 pub record Offer : Type 0 where
@@ -29,9 +28,9 @@ numbers (done ms cs used saved) = 1 ∷ used ∷ bit saved ∷ length ms ∷ (jo
 numbers (refused n) = 2 ∷ n ∷ []
 numbers (waiting c) = 3 ∷ call_of c
 
-abbrev pub step_as : Read → View → Kept → List ℕ → Stepped
-step_as (Known e) v k answers = step v k e answers
-step_as Unknown v k answers = stepped (refused 10) k
+abbrev pub step_as : Option Timed → View → Kept → List ℕ → Stepped
+step_as (Some e) v k answers = step v k e answers
+step_as None v k answers = stepped (refused 10) k
 
 abbrev pub checked : Offer → Stepped → (Kept → Bool) → Bool
 checked o r rest = same_list (numbers r.ended) o.ended && rest r.kept

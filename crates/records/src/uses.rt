@@ -3,7 +3,7 @@
 ghost use Rattle.std.specs.Prelude.{◌≤◌};
 
 use crate::text;
-use drivers::{FaderList, Index, Io, Level, LiveFader, Names, Tried};
+use drivers::{FaderList, Io, LiveFader, Names, Tried};
 
 fn opened() -> Io {
     drivers::fresh([true; 16])
@@ -49,13 +49,13 @@ fn say_open(answers: &[u8], calls: &mut [u8; 5392], messages: &mut [u8; 306]) {
     say_done(drivers::open(answers, calls, messages, io, 3));
 }
 
-fn say_level(level: Level) {
+fn say_level(level: Option<f64>) {
     match level {
-        Level::At(x) => {
+        Some(x) => {
             text::say(b" level ");
             text::level(x);
         }
-        Level::Unknown => text::say(b" unknown"),
+        None => text::say(b" unknown"),
     }
 }
 
@@ -100,13 +100,13 @@ fn say_playing(answers: &[u8], calls: &mut [u8; 5392], messages: &mut [u8; 306])
     say_used(io);
 }
 
-fn say_index(index: Index) {
+fn say_index(index: Option<u32>) {
     match index {
-        Index::At(i) => {
+        Some(i) => {
             text::say(b" index ");
             text::number(i as u64);
         }
-        Index::Nothing => text::say(b" unknown"),
+        None => text::say(b" unknown"),
     }
 }
 

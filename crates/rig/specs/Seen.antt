@@ -1,6 +1,5 @@
 -- What the definition sees of what a handler is handed: the profile's bytes and the current bank with its live faders are a rig. Definitions only.
-use Rattle.std.specs.Prelude.{ℕ, Bool, true, false, List}
-use Rattle.std.proofs.Math.Option.{Option, none, some}
+use Rattle.std.specs.Prelude.{ℕ, Bool, true, false, List, None, Option, Some}
 use Rattle.lookup.specs.Lookup.{positions_of, button_of}
 use Rattle.lookup.specs.View.{part_of}
 use Rattle.session.specs.Session.{seen_strips, strips_or}
@@ -16,5 +15,5 @@ rig_in p c = record { positions = positions_of p; globals = part_of p 255; here 
 
 -- a mute that was read, if it could be
 abbrev pub mute_if : Bool → Bool → Option Bool
-mute_if true b = some b
-mute_if false b = none
+mute_if true b = Some b
+mute_if false b = None

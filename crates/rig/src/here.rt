@@ -7,10 +7,10 @@ ghost use Rattle.definition.specs.Buttons.{or_absent};
 ghost use Rattle.rig.specs.Seen.{here_in, rig_in};
 
 use crate::Current;
-use lookup::{Drivers, Found};
+use lookup::{Destination, Drivers};
 
 // What the current bank itself wires the fader to: a live bank's are the ones its driver handed over last.
-pub fn own_fader(profile: &[u8], here: Current, number: u8) -> Found
+pub fn own_fader(profile: &[u8], here: Current, number: u8) -> Option<Destination>
     requires { here.strips.count ≤ 8 }
     ensures { result ≡ own_fader (here_in profile.now here) number }
 {
@@ -22,24 +22,24 @@ pub fn own_fader(profile: &[u8], here: Current, number: u8) -> Found
 }
 
 // A global fader wins over the bank's: it is the one that is always there, whichever bank is selected.
-pub fn destination(profile: &[u8], here: Current, number: u8) -> Found
+pub fn destination(profile: &[u8], here: Current, number: u8) -> Option<Destination>
     requires { here.strips.count ≤ 8 }
     ensures { result ≡ destination_of (rig_in profile.now here) number }
 {
     match lookup::fader(profile, 255, number) {
-        Found::To(d) => Found::To(d),
-        Found::Nothing => own_fader(profile, here, number),
+        Some(d) => Some(d),
+        None => own_fader(profile, here, number),
     }
 }
 
 // ── the bank's driver ──
 
-fn with_driver(drivers: Drivers, to: Found) -> Drivers
+fn with_driver(drivers: Drivers, to: Option<Destination>) -> Drivers
     requires { drivers.count < 16 }
     ensures result_value { seen_drivers result ≡ seen_drivers drivers ++ driver_in to }
     ensures count_bound { result.count ≤ drivers.count + 1 }
 {
-    let Found::To(d) = to else {
+    let Some(d) = to else {
         return drivers;
     };
     let n = drivers.count;
@@ -81,21 +81,21 @@ pub fn device(profile: &[u8], here: Current) -> u16
     own
 }
 
-fn is_of(to: Found, driver: u8) -> bool
+fn is_of(to: Option<Destination>, driver: u8) -> bool
     ensures { result ≡ is_of driver to }
 {
     match to {
-        Found::To(d) => d.driver == driver,
-        Found::Nothing => false,
+        Some(d) => d.driver == driver,
+        None => false,
     }
 }
 
-fn target_of(to: Found) -> u16
+fn target_of(to: Option<Destination>) -> u16
     ensures { result ≡ target_in to }
 {
     match to {
-        Found::To(d) => d.target,
-        Found::Nothing => 65535,
+        Some(d) => d.target,
+        None => 65535,
     }
 }
 

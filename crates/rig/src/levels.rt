@@ -6,15 +6,15 @@ ghost use Rattle.definition.specs.Levels.{normal, read as read_of, write as writ
 ghost use Rattle.rig.specs.Seen.{mute_if};
 
 use crate::MuteRead;
-use drivers::{Io, Level, Reading, Tried};
+use drivers::{Io, Reading, Tried};
 use lookup::Destination;
 
-fn as_the_fader_sees(dest: Destination, raw: Level) -> Level
+fn as_the_fader_sees(dest: Destination, raw: Option<f64>) -> Option<f64>
     ensures { result ≡ normal dest raw }
 {
     match raw {
-        Level::At(x) => Level::At(float::normalised(dest.low, dest.high, x)),
-        Level::Unknown => Level::Unknown,
+        Some(x) => Some(float::normalised(dest.low, dest.high, x)),
+        None => None,
     }
 }
 
@@ -58,12 +58,12 @@ pub fn write(
 }
 
 // The value, or 0 where the device has none to tell.
-pub fn or_zero(l: Level) -> f64
+pub fn or_zero(l: Option<f64>) -> f64
     ensures { result ≡ or_zero l }
 {
     match l {
-        Level::At(x) => x,
-        Level::Unknown => 0.0,
+        Some(x) => x,
+        None => 0.0,
     }
 }
 
@@ -81,12 +81,12 @@ pub fn read_mute(
     let u = g.io;
     let l = g.level;
     match l {
-        Level::At(x) => MuteRead {
+        Some(x) => MuteRead {
             io: u,
             known: true,
             muted: x >= 0.5,
         },
-        Level::Unknown => MuteRead {
+        None => MuteRead {
             io: u,
             known: false,
             muted: false,

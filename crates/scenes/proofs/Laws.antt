@@ -1,4 +1,5 @@
 -- The scenes of the current device and paging through them, from what the calls promise. Assumes nothing.
+use Rattle.std.proofs.Common.{None, Option, Some}
 use Prim.Native.Nat.{ℕ, ◌+◌, ◌-◌, ◌≤◌, ◌<◌}
 use mathlib.Core.Path.{◌≡◌, refl, sym, ap, ◌∙◌}
 use mathlib.Core.Bool.{Bool, true, false, ◌||◌, not}
@@ -15,8 +16,6 @@ use Rattle.base.specs.First.{first}
 use Rattle.base.specs.RangeLaws.{or_left_no, or_right_no}
 use Rattle.base.specs.FirstLaws.{first-at, first_more, first-hit, first_done}
 use Rattle.base.specs.KeyedLaws.{other_none}
-use Rattle.base.specs.declared.Place.{Place}
-use Rattle.base.specs.declared.Place.TheVariants as place
 use Rattle.profile.specs.Profile.{count_of, verdict}
 use Rattle.profile.specs.Accepted.{few_scenes}
 use Rattle.lookup.proofs.GatherLaws.{gather-length}
@@ -26,9 +25,6 @@ use Rattle.drivers.specs.Talk.{Talk, Got, got, next, current_of, load_of, scenes
 use Rattle.drivers.specs.Shown.{seen_names, listed, shown}
 use Rattle.drivers.specs.declared.Io.{Io}
 use Rattle.drivers.specs.declared.Names.{Names}
-use Rattle.drivers.specs.declared.Index.{Index}
-use Rattle.drivers.specs.declared.Index.TheVariants as index
-use Rattle.drivers.specs.declared.Level.{Level}
 use Rattle.session.specs.Session.{scene_at, scene_to, scene_unknown, solo_to, none_noted, loaded_by}
 use Rattle.session.specs.declared.Lamps.{Lamps}
 use Rattle.session.specs.declared.Moves.{Moves}
@@ -52,26 +48,26 @@ module _ (s : Names) (few : s.count ≤ 128) (long : length s.list ≡ 128) wher
   names_at i l = other_none s.list i 0 65535 (omega arith) ∙ sym (get_or-take s.count s.list i 65535 l)
 
   -- `place_in`: none of the first i has the name
-  module _ (name i : ℕ) (none : first i (λ k. eqb (get_or (seen_names s) k 65535) name) ≡ place.Nothing) where
-    pub place-hit : i < s.count → get_or s.list i 0 ≡ name → place.At i ≡ position name (seen_names s)
+  module _ (name i : ℕ) (none : first i (λ k. eqb (get_or (seen_names s) k 65535) name) ≡ None) where
+    pub place-hit : i < s.count → get_or s.list i 0 ≡ name → Some i ≡ position name (seen_names s)
     unfolding position
     place-hit l e =
         first-hit (λ k. eqb (get_or (seen_names s) k 65535) name) (length (seen_names s)) i none
         (eq-eqb (get_or (seen_names s) i 65535) name (sym (names_at i l) ∙ e)) (rw names_length l)
 
-    pub place-more : i < s.count → (get_or s.list i 0 ≡ name → ⊥) → first (i + 1) (λ k. eqb (get_or (seen_names s) k 65535) name) ≡ place.Nothing
+    pub place-more : i < s.count → (get_or s.list i 0 ≡ name → ⊥) → first (i + 1) (λ k. eqb (get_or (seen_names s) k 65535) name) ≡ None
     place-more l n = first_more (λ k. eqb (get_or (seen_names s) k 65535) name) i none (ne_eqb (get_or (seen_names s) i 65535) name (λ e. n (names_at i l ∙ e)))
 
-    pub place-done : i ≤ s.count → s.count ≤ i → place.Nothing ≡ position name (seen_names s)
+    pub place-done : i ≤ s.count → s.count ≤ i → None ≡ position name (seen_names s)
     unfolding position
     place-done a b = first_done (λ k. eqb (get_or (seen_names s) k 65535) name) i (length (seen_names s)) (rw names_length a) (rw names_length b) none
 
   -- `place_of`: where the i-th of them stands among the names that are offered
   module _ (offered : List ℕ) (i : ℕ) where
-    pub past_names : s.count ≤ i → place.Nothing ≡ place_of offered i (seen_names s)
+    pub past_names : s.count ≤ i → None ≡ place_of offered i (seen_names s)
     past_names h = rw (names_length, le-ltb i s.count h)
 
-    pub among_names : (r : Place) → i < s.count → r ≡ position (get_or s.list i 0) offered → r ≡ place_of offered i (seen_names s)
+    pub among_names : (r : Option ℕ) → i < s.count → r ≡ position (get_or s.list i 0) offered → r ≡ place_of offered i (seen_names s)
     among_names r l e = rw (names_length, lt-ltb i s.count l, ← names_at i l) e
 
 -- ── which scenes there are ──
@@ -126,66 +122,66 @@ position_low : (name : ℕ) (l : List ℕ) → length l ≤ 128 → is_low (posi
 unfolding position
 position_low name l few = go (position name l) refl
   where
-    go : (q : Place) → position name l ≡ q → is_low q ≡ true
-    go (place.At k) e = let h = (first-at (λ i. eqb (get_or l i 65535) name) (length l) k e).0 in le-leb k 4294967295 (omega arith)
-    go place.Nothing e = refl
+    go : (q : Option ℕ) → position name l ≡ q → is_low q ≡ true
+    go (Some k) e = let h = (first-at (λ i. eqb (get_or l i 65535) name) (length l) k e).0 in le-leb k 4294967295 (omega arith)
+    go None e = refl
 
-place_low : (p : List ℕ) (bank : ℕ) (o : Offer) → Offers p bank o → (i : ℕ) (all : List ℕ) (r : Place) → r ≡ place_of (seen_offer p bank o) i all → is_low r ≡ true
+place_low : (p : List ℕ) (bank : ℕ) (o : Offer) → Offers p bank o → (i : ℕ) (all : List ℕ) (r : Option ℕ) → r ≡ place_of (seen_offer p bank o) i all → is_low r ≡ true
 place_low p bank o w i all r e = rw e (go (ltb i (length all)))
   where
-    go : (b : Bool) → is_low (pick b (position (get_or all i 65535) (seen_offer p bank o)) place.Nothing) ≡ true
+    go : (b : Bool) → is_low (pick b (position (get_or all i 65535) (seen_offer p bank o)) None) ≡ true
     go true = position_low (get_or all i 65535) (seen_offer p bank o) (rw (← w.count) w.few)
     go false = refl
 
-pub low_at : (q : Place) (i : ℕ) → is_low q ≡ true → q ≡ place.At i → i < 4294967296
+pub low_at : (q : Option ℕ) (i : ℕ) → is_low q ≡ true → q ≡ Some i → i < 4294967296
 low_at q i h e = let k = leb-true i 4294967295 (sym (ap is_low e) ∙ h) in omega arith
 
 module _ (h : Here) (names : List ℕ) (t : Talk) (name : ℕ) (d : name ≡ device h) where
-  pub off_device : name ≡ 65535 → got place.Nothing t ≡ scene_on_device h names t
+  pub off_device : name ≡ 65535 → got None t ≡ scene_on_device h names t
   unfolding scene_on_device
   off_device f = rw (← d, eq-eqb name 65535 f)
 
   -- the device answered i, and the line after it is u
-  module _ (f : name ≡ 65535 → ⊥) (i : Index) (u : Talk) (g : got i u ≡ current_of name t) where
-    pub cannot_say : i ≡ index.Nothing → got place.Nothing u ≡ scene_on_device h names t
+  module _ (f : name ≡ 65535 → ⊥) (i : Option ℕ) (u : Talk) (g : got i u ≡ current_of name t) where
+    pub cannot_say : i ≡ None → got None u ≡ scene_on_device h names t
     unfolding scene_on_device next
     cannot_say e = rw (← d, ne_eqb name 65535 f, ← g, e)
 
-    says : (k : ℕ) (ok : Bool) (all : List ℕ) (v : Talk) (r : Place) → i ≡ index.At k → got (listed ok all) v ≡ ask_scenes name u → r ≡ place_of names k all →
+    says : (k : ℕ) (ok : Bool) (all : List ℕ) (v : Talk) (r : Option ℕ) → i ≡ Some k → got (listed ok all) v ≡ ask_scenes name u → r ≡ place_of names k all →
         got r v ≡ scene_on_device h names t
     unfolding scene_on_device next
     says k ok all v r e a b = rw (← d, ne_eqb name 65535 f, ← g, e, ← a, b)
 
 -- and that place is one of 32 bits
-pub says_low : (p : List ℕ) (c : Current) (o : Offer) → Offers p c.bank o → (t : Talk) (name : ℕ) → name ≡ device (here_in p c) → (name ≡ 65535 → ⊥) → (i : Index) (u : Talk) →
-    got i u ≡ current_of name t → (k : ℕ) (ok : Bool) (all : List ℕ) (v : Talk) (r : Place) → i ≡ index.At k → got (listed ok all) v ≡ ask_scenes name u →
+pub says_low : (p : List ℕ) (c : Current) (o : Offer) → Offers p c.bank o → (t : Talk) (name : ℕ) → name ≡ device (here_in p c) → (name ≡ 65535 → ⊥) → (i : Option ℕ) (u : Talk) →
+    got i u ≡ current_of name t → (k : ℕ) (ok : Bool) (all : List ℕ) (v : Talk) (r : Option ℕ) → i ≡ Some k → got (listed ok all) v ≡ ask_scenes name u →
     r ≡ place_of (seen_offer p c.bank o) k all → (got r v ≡ scene_on_device (here_in p c) (seen_offer p c.bank o) t) × (is_low r ≡ true)
 says_low p c o w t name d f i u g k ok all v r e a b =
     (says (here_in p c) (seen_offer p c.bank o) t name d f i u g k ok all v r e a b, place_low p c.bank o w k all r b)
 
 -- ── the position that is kept ──
 
-module _ (l k : Lamps) (bank : ℕ) (q : Place) where
-  pub placed_at : (i : ℕ) → q ≡ place.At i → k ≡ scene_to bank i l → k ≡ placed bank q l
+module _ (l k : Lamps) (bank : ℕ) (q : Option ℕ) where
+  pub placed_at : (i : ℕ) → q ≡ Some i → k ≡ scene_to bank i l → k ≡ placed bank q l
   placed_at i e p = rw e p
 
-  pub placed_nowhere : q ≡ place.Nothing → k ≡ scene_unknown bank l → k ≡ placed bank q l
+  pub placed_nowhere : q ≡ None → k ≡ scene_unknown bank l → k ≡ placed bank q l
   placed_nowhere e p = rw e p
 
   pub placed-flash : k ≡ placed bank q l → k.flash ≡ l.flash
   unfolding scene_to scene_unknown
   placed-flash p = ap (λ (x : Lamps). x.flash) p ∙ go q
     where
-      go : (x : Place) → (placed bank x l).flash ≡ l.flash
-      go (place.At i) = refl
-      go place.Nothing = refl
+      go : (x : Option ℕ) → (placed bank x l).flash ≡ l.flash
+      go (Some i) = refl
+      go None = refl
 
-module _ (h : Here) (names : List ℕ) (l : Lamps) (t : Talk) (at : Place) (a : at ≡ scene_at h.bank l) where
-  pub kept : (i : ℕ) → at ≡ place.At i → got (started l false) t ≡ start h names l t
+module _ (h : Here) (names : List ℕ) (l : Lamps) (t : Talk) (at : Option ℕ) (a : at ≡ scene_at h.bank l) where
+  pub kept : (i : ℕ) → at ≡ Some i → got (started l false) t ≡ start h names l t
   unfolding start
   kept i e = rw (← a, e)
 
-  pub found : (q : Place) (u : Talk) (k : Lamps) → at ≡ place.Nothing → got q u ≡ scene_on_device h names t → k ≡ placed h.bank q l → got (started k true) u ≡ start h names l t
+  pub found : (q : Option ℕ) (u : Talk) (k : Lamps) → at ≡ None → got q u ≡ scene_on_device h names t → k ≡ placed h.bank q l → got (started k true) u ≡ start h names l t
   unfolding start next
   found q u k e g p = rw (← a, e, ← g, p)
 
@@ -193,19 +189,19 @@ module _ (h : Here) (names : List ℕ) (l : Lamps) (t : Talk) (at : Place) (a : 
 
 module _ (name i : ℕ) (s : Names) (few : s.count ≤ 128) (long : length s.list ≡ 128) (k : ℕ) where
   -- the place that the driver is told is one of 32 bits
-  pub told_low : (q : Place) → q ≡ position name (seen_names s) → k ≡ or_same q i → i < 4294967296 → k < 4294967296
+  pub told_low : (q : Option ℕ) → q ≡ position name (seen_names s) → k ≡ or_same q i → i < 4294967296 → k < 4294967296
   told_low q p e h = rw e (go q p)
     where
-      go : (x : Place) → x ≡ position name (seen_names s) → or_same x i < 4294967296
-      go (place.At j) w = low_at (place.At j) j (ap is_low w ∙ position_low name (seen_names s) (rw (names_length s few long) few)) refl
-      go place.Nothing w = h
+      go : (x : Option ℕ) → x ≡ position name (seen_names s) → or_same x i < 4294967296
+      go (Some j) w = low_at (Some j) j (ap is_low w ∙ position_low name (seen_names s) (rw (names_length s few long) few)) refl
+      go None w = h
 
 module _ (driver name i : ℕ) (t : Talk) (ok : Bool) (l : List ℕ) (u : Talk) (g : got (listed ok l) u ≡ ask_scenes driver t) where
   pub not_listed : not ok ≡ true → got false u ≡ load_on driver name i t
   unfolding load_on next
   not_listed e = rw (← g, not-true ok e)
 
-  pub loads_on : not ok ≡ false → (q : Place) (k : ℕ) (x : Got Bool) → q ≡ position name l → k ≡ or_same q i → x ≡ load_of driver k u → x ≡ load_on driver name i t
+  pub loads_on : not ok ≡ false → (q : Option ℕ) (k : ℕ) (x : Got Bool) → q ≡ position name l → k ≡ or_same q i → x ≡ load_of driver k u → x ≡ load_on driver name i t
   unfolding load_on next
   loads_on e q k x p o b = rw (← g, not-false ok e, ← p, ← o) b
 
@@ -242,7 +238,7 @@ module _ (r : Rig) (s : List ℕ) (i : ℕ) (l : Lamps) (t : Talk) (names : List
 
 -- ── the scene that an arrow reaches ──
 
-module _ (q : Place) (count s : ℕ) (e : q ≡ place.At s) (some : 1 ≤ count) where
+module _ (q : Option ℕ) (count s : ℕ) (e : q ≡ Some s) (some : 1 ≤ count) where
   pub one_on : (right : Bool) → right ≡ true → s < count - 1 → s + 1 ≡ next_scene right q count
   one_on right r h = rw (r, e) (omega arith)
 
@@ -258,14 +254,14 @@ module _ (q : Place) (count s : ℕ) (e : q ≡ place.At s) (some : 1 ≤ count)
   pub back_to_last : (right : Bool) → right ≡ false → count - 1 ≤ s - 1 → count - 1 ≡ next_scene right q count
   back_to_last right r h = rw (r, e) (omega arith)
 
-pub at_place : (q : Place) (s i : ℕ) → q ≡ place.At s → eqb s i ≡ is_at q i
+pub at_place : (q : Option ℕ) (s i : ℕ) → q ≡ Some s → eqb s i ≡ is_at q i
 at_place q s i e = rw e
 
 -- ── the arrows, and R: home is the last move of the flash's row ──
 
 -- another state of the lamps with the same flash
 module _ (l k : Lamps) (same : k.flash ≡ l.flash) where
-  same_home : (r : Rig) (home : Level) (m : Moves) → IsHome home r l m → IsHome home r k m
+  same_home : (r : Rig) (home : Option Float) (m : Moves) → IsHome home r l m → IsHome home r k m
   same_home r home m h = rw same h
 
   pub same_note : has_note l.flash ≡ true → has_note k.flash ≡ true
@@ -279,12 +275,12 @@ pub by_flash : (fader : ℕ) (k j : Lamps) → j ≡ loaded_by fader k → j.fla
 unfolding loaded_by
 by_flash fader k j p = ap (λ (x : Lamps). x.flash) p
 
-module _ (r : Rig) (l : Lamps) (s : List ℕ) (home : Level) (now : Float) (t : Talk) where
+module _ (r : Rig) (l : Lamps) (s : List ℕ) (home : Option Float) (now : Float) (t : Talk) where
   pub shows_loaded : (i : ℕ) (k : Lamps) (u : Talk) → Shows r l s home now i 8 t (got k u) → ShowsLoaded r l s home now i t (got (paged k true true) u)
   unfolding next
   shows_loaded i k u f m saved h = rw (← f m h)
 
-  module _ (i : ℕ) (saved : Bool) (q : Place) (a : q ≡ scene_at r.here.bank l) (b : Bool) (at : b ≡ is_at q i) where
+  module _ (i : ℕ) (saved : Bool) (q : Option ℕ) (a : q ≡ scene_at r.here.bank l) (b : Bool) (at : b ≡ is_at q i) where
     pub at-end : (x : Paged) (v : Talk) → b ≡ true → x ≡ paged l false saved → v ≡ t → PagesTo r l s home now i saved t (got x v)
     at-end x v e p y m h = rw (← a, ← at, e, p, y)
 
@@ -303,7 +299,7 @@ module _ (r : Rig) (l : Lamps) (s : List ℕ) (home : Level) (now : Float) (t : 
     unfolding step_scene next
     no_scenes x v z p q m h = rw (← g, ← c, eq-eqb n 0 z, p, q)
 
-    pub steps : (k : Lamps) (saved : Bool) (v : Talk) (at : Place) (i : ℕ) (x : Got Paged) → (n ≡ 0 → ⊥) → got (started k saved) v ≡ start r.here names l u →
+    pub steps : (k : Lamps) (saved : Bool) (v : Talk) (at : Option ℕ) (i : ℕ) (x : Got Paged) → (n ≡ 0 → ⊥) → got (started k saved) v ≡ start r.here names l u →
         k.flash ≡ l.flash → at ≡ scene_at r.here.bank k → i ≡ next_scene right at n → PagesTo r k s home now i saved v x → StepsScene right r l s home now t x
     unfolding step_scene next
     steps k saved v at i x z a same p q w m h = rw (← g, ← c, ne_eqb n 0 z, ← c, ← a, ← p, ← q, p) (w m (same_home l k same r home m h))

@@ -1,8 +1,6 @@
 -- The scenes that the current device offers, as the definition sees them. Definitions only.
-use Rattle.std.specs.Prelude.{ℕ, ◌≤◌, ◌≡◌, Bool, true, List, leb, length}
+use Rattle.std.specs.Prelude.{ℕ, ◌≤◌, ◌≡◌, Bool, true, List, leb, length, None, Option, Some}
 use Rattle.base.specs.Choice.{pick}
-use Rattle.base.specs.declared.Place.{Place}
-use Rattle.base.specs.declared.Place.TheVariants as place
 use Rattle.lookup.specs.Lookup.{scenes_of}
 use Rattle.drivers.specs.Shown.{seen_names}
 use Rattle.scenes.specs.declared.names.Offer.{Offer}
@@ -18,6 +16,6 @@ pub record Offers (p : List ℕ) (bank : ℕ) (o : Offer) : Type 0 where
   pub names : o.names.count ≤ 128
 
 -- a place that a position of 32 bits can hold
-abbrev pub is_low : Place → Bool
-is_low (place.At i) = leb i 4294967295
-is_low place.Nothing = true
+abbrev pub is_low : Option ℕ → Bool
+is_low (Some i) = leb i 4294967295
+is_low None = true

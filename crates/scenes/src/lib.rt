@@ -13,8 +13,7 @@ ghost use Rattle.rig.specs.Seen.{rig_in};
 ghost use Rattle.surface.specs.Home.{has_note};
 ghost use Rattle.scenes.specs.Pages.{seen_paged, ShowsLoaded, PagesTo, StepsScene, LoadsScene};
 
-use base::Place;
-use drivers::{Io, Level};
+use drivers::Io;
 use rig::Current;
 use session::Lamps;
 
@@ -41,11 +40,11 @@ fn not_loaded(io: Io, lamps: Lamps, saved: bool) -> Paged
 // ── the scene that an arrow reaches ──
 
 // One on or one back, held within the list; the first one where no position is known.
-fn next_scene(place: Place, count: usize, right: bool) -> usize
+fn next_scene(place: Option<usize>, count: usize, right: bool) -> usize
     requires { 1 ≤ count }
     ensures { result ≡ next_scene right place count }
 {
-    let Place::At(s) = place else {
+    let Some(s) = place else {
         return 0;
     };
     let last = count - 1;
@@ -64,12 +63,12 @@ fn next_scene(place: Place, count: usize, right: bool) -> usize
     last
 }
 
-fn is_at(place: Place, i: usize) -> bool
+fn is_at(place: Option<usize>, i: usize) -> bool
     ensures { result ≡ is_at place i }
 {
     match place {
-        Place::At(s) => s == i,
-        Place::Nothing => false,
+        Some(s) => s == i,
+        None => false,
     }
 }
 
@@ -86,7 +85,7 @@ fn show_loaded(
     lamps: Lamps,
     targets: &[u16; 256],
     hushed: usize,
-    home: Level,
+    home: Option<f64>,
     time: f64,
     i: usize,
 ) -> Paged
@@ -131,7 +130,7 @@ fn page_to(
     lamps: Lamps,
     targets: &[u16; 256],
     hushed: usize,
-    home: Level,
+    home: Option<f64>,
     time: f64,
     i: usize,
     saved: bool,
@@ -170,7 +169,7 @@ pub fn step_scene(
     lamps: Lamps,
     targets: &[u16; 256],
     hushed: usize,
-    home: Level,
+    home: Option<f64>,
     time: f64,
     right: bool,
 ) -> Paged
@@ -208,7 +207,7 @@ pub fn scene(
     lamps: Lamps,
     targets: &[u16; 256],
     hushed: usize,
-    home: Level,
+    home: Option<f64>,
     time: f64,
     fader: u8,
 ) -> Paged

@@ -7,7 +7,6 @@ ghost use Rattle.definition.specs.Scenes.{or_same, after_load, load_on, loaded, 
 ghost use Rattle.rig.specs.Seen.{rig_in};
 
 use crate::names;
-use base::Place;
 use drivers::{Io, Tried};
 use rig::Current;
 use session::Lamps;
@@ -19,12 +18,12 @@ pub struct Loaded {
     pub ok: bool,
 }
 
-fn or_same(place: Place, i: usize) -> usize
+fn or_same(place: Option<usize>, i: usize) -> usize
     ensures { result ≡ or_same place i }
 {
     match place {
-        Place::At(k) => k,
-        Place::Nothing => i,
+        Some(k) => k,
+        None => i,
     }
 }
 

@@ -8,8 +8,7 @@ ghost use Rattle.definition.specs.Scenes.{scene_names, place_of, scene_on_device
 ghost use Rattle.rig.specs.Seen.{here_in};
 ghost use Rattle.scenes.specs.Offer.{seen_offer, Offers, is_low};
 
-use base::Place;
-use drivers::{Index, Io, Names};
+use drivers::{Io, Names};
 use rig::Current;
 use session::Lamps;
 
@@ -103,7 +102,7 @@ pub fn name_at(profile: &[u8], bank: u8, offer: Offer, i: usize) -> u16
 }
 
 // The first place of a name in a device's list.
-pub fn place_in(names: Names, name: u16) -> Place
+pub fn place_in(names: Names, name: u16) -> Option<usize>
     requires { names.count ≤ 128 }
     ensures { result ≡ position name (seen_names names) }
 {
@@ -111,14 +110,14 @@ pub fn place_in(names: Names, name: u16) -> Place
     let mut i: usize = 0;
     while i < n {
         if names.list[i] == name {
-            return Place::At(i);
+            return Some(i);
         }
         i += 1;
     }
-    Place::Nothing
+    None
 }
 
-fn position_of(profile: &[u8], bank: u8, offer: Offer, name: u16) -> Place
+fn position_of(profile: &[u8], bank: u8, offer: Offer, name: u16) -> Option<usize>
     requires { Offers profile.now bank offer }
     ensures { result ≡ position name (seen_offer profile.now bank offer) }
 {
@@ -134,17 +133,17 @@ fn position_of(profile: &[u8], bank: u8, offer: Offer, name: u16) -> Place
 #[derive(Clone, Copy)]
 struct OnDevice {
     io: Io,
-    place: Place,
+    place: Option<usize>,
 }
 
 // Where the i-th scene of the device's own list stands among those that are offered.
-fn place_of(profile: &[u8], bank: u8, offer: Offer, all: Names, i: usize) -> Place
+fn place_of(profile: &[u8], bank: u8, offer: Offer, all: Names, i: usize) -> Option<usize>
     requires offers { Offers profile.now bank offer }
     requires count_bound { all.count ≤ 128 }
     ensures { result ≡ place_of (seen_offer profile.now bank offer) i (seen_names all) }
 {
     if all.count <= i {
-        return Place::Nothing;
+        return None;
     }
     let name = all.list[i];
     position_of(profile, bank, offer, name)
@@ -170,17 +169,14 @@ fn scene_on_device(
     if name == 65535 {
         return OnDevice {
             io: io,
-            place: Place::Nothing,
+            place: None,
         };
     }
     let g = drivers::current_scene(answers, calls, messages, io, name as u8);
     let u = g.io;
     let at = g.index;
-    let Index::At(i) = at else {
-        return OnDevice {
-            io: u,
-            place: Place::Nothing,
-        };
+    let Some(i) = at else {
+        return OnDevice { io: u, place: None };
     };
     let all = drivers::scenes(answers, calls, messages, u, name as u8);
     let v = all.io;
@@ -191,14 +187,14 @@ fn scene_on_device(
 
 // ── the position that is kept ──
 
-fn with_scene(lamps: Lamps, bank: u8, place: Place) -> Lamps
+fn with_scene(lamps: Lamps, bank: u8, place: Option<usize>) -> Lamps
     requires bank_bound { bank < 16 }
     requires place_value { is_low place ≡ true }
     ensures { result ≡ placed bank place lamps }
 {
     match place {
-        Place::At(i) => session::scene_to(lamps, bank, i as u32),
-        Place::Nothing => session::scene_unknown(lamps, bank),
+        Some(i) => session::scene_to(lamps, bank, i as u32),
+        None => session::scene_unknown(lamps, bank),
     }
 }
 
@@ -227,7 +223,7 @@ pub fn start(
     ensures messages_after { got (started result.lamps result.saved) (shown answers.now result.io calls.new messages.new) ≡ start_of (here_in profile.now here) (seen_offer profile.now here.bank offer) lamps (shown answers.now io calls.old messages.old) }
     ensures flash_value { result.lamps.flash ≡ lamps.flash }
 {
-    let Place::Nothing = session::scene_at(lamps, here.bank) else {
+    let None = session::scene_at(lamps, here.bank) else {
         return Started {
             io: io,
             lamps: lamps,

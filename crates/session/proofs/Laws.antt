@@ -1,8 +1,8 @@
 -- What the session's functions share: a list that is kept as the first n of an array of `top` places. Assumes nothing.
+use Rattle.std.proofs.Common.{None, Option, Some}
 use mathlib.Core.Path.{◌≡◌, refl, sym, ap, ◌∙◌, subst}
 use mathlib.Core.Bool.{Bool, true, false, ◌&&◌}
 use mathlib.Core.List.{List, [], ◌∷◌, ◌++◌, map, map-append, append-nil}
-use mathlib.Core.Option.{Option, none, some}
 use Prim.Native.Nat.{ℕ, ◌+◌, ◌≤◌, ◌<◌, min}
 use native.Mathlib.Numerals.{add-one}
 use native.Mathlib.Omega.{arith}
@@ -19,7 +19,6 @@ use Rattle.base.specs.KeyedLaws as laws
 use Rattle.lookup.specs.Lookup.{dest_at}
 use Rattle.session.specs.Session.{Turn, turn_at, turns_up_to, is_encoder, wires_to, is_dest, add_to, first_turn, turn, RoomToTurn, Hushed, hushed_at, hushed_up_to, hushed_level, hush, unhush, has_room, same_target, is_target, other_target, seen_strips, strips_or, is_strip, strip_at, no_strip, same_at}
 use Rattle.session.specs.SessionLaws.{sums_in, sums_long, same_sum}
-use Rattle.drivers.specs.declared.Level.TheVariants.{At, Unknown}
 use Rattle.session.specs.declared.Strip.{Strip}
 use Rattle.session.specs.declared.Strips.{Strips}
 
@@ -92,11 +91,11 @@ module _ (target : ℕ) (ts : List ℕ) (ls : List Float) (n i : ℕ) (lt : leng
   same_place : i ≡ at (is_target target) (take n pairs)
   same_place = side.beside-place hushed_at (is_target target) (same_target target) (λ x y. refl) ts ls (omega arith) n i (omega arith) e
 
-  pub level_there : i < n → hushed_level target (hushed_up_to n ts ls) ≡ At (get_or ls i nan)
+  pub level_there : i < n → hushed_level target (hushed_up_to n ts ls) ≡ Some (get_or ls i nan)
   unfolding hushed_level
   level_there h = rw (side.beside-take hushed_at n ts ls, laws.found (is_target target) no_hushed pairs n i same_place (omega (arith, pairs_long)) h, side.beside-get_or hushed_at 0 nan ts ls i (omega arith))
 
-  pub level_missing : n ≤ i → hushed_level target (hushed_up_to n ts ls) ≡ Unknown
+  pub level_missing : n ≤ i → hushed_level target (hushed_up_to n ts ls) ≡ None
   unfolding hushed_level
   level_missing h = rw (side.beside-take hushed_at n ts ls, laws.not_found (is_target target) no_hushed pairs n i same_place (omega (arith, pairs_long)) h)
 
@@ -255,18 +254,18 @@ looked number s = strip_at number (strips_or (seen_strips s))
 -- what a search among the first n of a bank's strips shows of the strip of that number
 module _ (s : Strips) (number n i : ℕ) (long : length s.list ≡ 8) (within : n ≤ 8) (known : take n s.list ≡ strips_or (seen_strips s))
     (e : i ≡ at (is_strip number) (take n s.list)) where
-  pub strip_there : i < n → looked number s ≡ some (get_or s.list i no_strip)
+  pub strip_there : i < n → looked number s ≡ Some (get_or s.list i no_strip)
   unfolding strip_at
   strip_there h = rw (← known) (laws.found (is_strip number) no_strip s.list n i e (omega arith) h)
 
-  pub strip_missing : n ≤ i → looked number s ≡ none
+  pub strip_missing : n ≤ i → looked number s ≡ None
   unfolding strip_at
   strip_missing h = rw (← known) (laws.not_found (is_strip number) no_strip s.list n i e (omega arith) h)
 
   -- where the other list lacks the number
-  pub both_missing : leb n i ≡ same_at none (looked number s)
+  pub both_missing : leb n i ≡ same_at None (looked number s)
   both_missing = go (leb n i) refl
     where
-      go : (b : Bool) → leb n i ≡ b → b ≡ same_at none (looked number s)
+      go : (b : Bool) → leb n i ≡ b → b ≡ same_at None (looked number s)
       go true q = rw (strip_missing (leb-true n i q))
       go false q = rw (strip_there (leb-false n i q))

@@ -1,24 +1,17 @@
 -- What the bridge keeps between two events: the port of `struct Bridge`. A list that the Rust grows is an array with a count here; what the definitions see
 -- of it is the list of its first `count` elements, and what stands behind is free. A map by (bank, channel) is an array by bank * 16 + channel, in code and
 -- definition alike. Definitions only.
-use Rattle.std.specs.Prelude.{ℕ, zero, suc, ◌+◌, ◌-◌, ◌*◌, ◌≤◌, ◌<◌, ◌≡◌, List, [], ◌∷◌, map, Bool, true, false, ◌&&◌, not, eqb, leb, ltb, length, get_or, take, set, replicate, ℤ, pos, ◌+ℤ◌, Float}
-use Rattle.std.proofs.Math.Option.{Option, none, some}
+use Rattle.std.specs.Prelude.{ℕ, zero, suc, ◌+◌, ◌-◌, ◌*◌, ◌≤◌, ◌<◌, ◌≡◌, List, [], ◌∷◌, map, Bool, true, false, ◌&&◌, not, eqb, leb, ltb, length, get_or, take, set, replicate, ℤ, pos, ◌+ℤ◌, Float, None, Option, Some}
 use Rattle.std.specs.Int.{w32}
 use Rattle.std.proofs.Common.{SFits}
 use Rattle.std.specs.Float.{nan}
 use Rattle.base.specs.Choice.{pick}
 use Rattle.base.specs.Range.{all, every}
-use Rattle.base.specs.declared.Place.{Place}
-use Rattle.base.specs.declared.Place.TheVariants as place
 use Rattle.base.specs.Keyed.{find, any_of, all_of, change, keep, beside}
 use Rattle.float.specs.Leaf.{f0, f1}
 use Rattle.profile.specs.Profile.{records, is_kind}
 use Rattle.lookup.specs.Lookup.{dest_at, same_dest}
 use Rattle.lookup.specs.declared.Destination.{Destination}
-use Rattle.lookup.specs.declared.Found.{Found}
-use Rattle.lookup.specs.declared.Found.TheVariants as found
-use Rattle.drivers.specs.declared.Level.{Level}
-use Rattle.drivers.specs.declared.Level.TheVariants.{At, Unknown}
 use Rattle.drivers.specs.declared.LiveFader.{LiveFader}
 use Rattle.session.specs.declared.Strip.{Strip}
 use Rattle.session.specs.declared.Strips.{Strips}
@@ -55,11 +48,11 @@ unmark_bank bank m = record { on = unmark_up_to bank 16 m.on }
 
 -- ── last moves: `last_seen` ──
 
-abbrev pub level_if : Bool → Float → Level
-level_if true v = At v
-level_if false v = Unknown
+abbrev pub level_if : Bool → Float → Option Float
+level_if true v = Some v
+level_if false v = None
 
-unfoldable pub last_move : ℕ → Moves → Level
+unfoldable pub last_move : ℕ → Moves → Option Float
 last_move k m = level_if (get_or m.known k false) (get_or m.level k nan)
 
 unfoldable pub moved_to : ℕ → Float → Moves → Moves
@@ -180,11 +173,11 @@ other_target target e = not (eqb e.target target)
 unfoldable pub is_hushed : ℕ → List ℕ → Bool
 is_hushed target l = any_of (same_target target) l
 
-abbrev pub level_for : Option Hushed → Level
-level_for none = Unknown
-level_for (some e) = At e.level
+abbrev pub level_for : Option Hushed → Option Float
+level_for None = None
+level_for (Some e) = Some e.level
 
-unfoldable pub hushed_level : ℕ → List Hushed → Level
+unfoldable pub hushed_level : ℕ → List Hushed → Option Float
 hushed_level target l = level_for (find (is_target target) l)
 
 unfoldable pub hush : ℕ → Float → List Hushed → List Hushed
@@ -201,15 +194,15 @@ unhush target l = keep (other_target target) l
 
 -- the faders that a bank's driver handed over last: none while it was not asked
 abbrev pub strips_if : Bool → List Strip → Option (List Strip)
-strips_if true l = some l
-strips_if false l = none
+strips_if true l = Some l
+strips_if false l = None
 
 unfoldable pub seen_strips : Strips → Option (List Strip)
 seen_strips s = strips_if s.known (take s.count s.list)
 
 abbrev pub strips_or : Option (List Strip) → List Strip
-strips_or none = []
-strips_or (some l) = l
+strips_or None = []
+strips_or (Some l) = l
 
 abbrev pub is_strip : ℕ → Strip → Bool
 is_strip number s = eqb s.number number
@@ -271,18 +264,18 @@ same_strip a b =
     && (eqb a.label b.label && (eqb a.group b.group && eqb a.mute b.mute)))
 
 abbrev pub same_at : Option Strip → Option Strip → Bool
-same_at none none = true
-same_at none (some b) = false
-same_at (some a) none = false
-same_at (some a) (some b) = same_strip a b
+same_at None None = true
+same_at None (Some b) = false
+same_at (Some a) None = false
+same_at (Some a) (Some b) = same_strip a b
 
 -- two lists are equal as maps by number: the order in which they stand does not count
 unfoldable pub same_strips : List Strip → List Strip → Bool
 same_strips a b = all 8 (λ i. same_at (strip_at (i + 1) a) (strip_at (i + 1) b))
 
-abbrev pub found_strip : Option Strip → Found
-found_strip none = found.Nothing
-found_strip (some s) = found.To (strip_dest s)
+abbrev pub found_strip : Option Strip → Option Destination
+found_strip None = None
+found_strip (Some s) = Some (strip_dest s)
 
 abbrev pub no_strip : Strip
 no_strip = record { number = 0; driver = 0; target = 0; label = 0; group = 0; mute = 0 }
@@ -321,12 +314,12 @@ solo_to fader l = lamps_of fader l.loaded l.before l.known l.scenes l.flash
 unfoldable pub loaded_by : ℕ → Lamps → Lamps
 loaded_by fader l = lamps_of l.soloed fader l.before l.known l.scenes l.flash
 
-abbrev pub place_if : Bool → ℕ → Place
-place_if true i = place.At i
-place_if false i = place.Nothing
+abbrev pub place_if : Bool → ℕ → Option ℕ
+place_if true i = Some i
+place_if false i = None
 
 -- `scene_index`: where a bank's device is in its scene list, if that is known
-unfoldable pub scene_at : ℕ → Lamps → Place
+unfoldable pub scene_at : ℕ → Lamps → Option ℕ
 scene_at bank l = place_if (get_or l.known bank false) (get_or l.scenes bank 0)
 
 -- `set_scene_index`

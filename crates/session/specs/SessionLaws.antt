@@ -1,11 +1,10 @@
 -- Laws of the session: no channel, target or destination waits twice, whatever is done to its list, and a line of channels below 16 has a place for
 -- every channel. A driver's list without a number twice has at most eight faders on the surface. Assumes nothing.
-use Rattle.std.specs.Prelude.{ℕ, zero, suc, ◌-◌, ◌≤◌, ◌<◌, ◌≡◌, Bool, eqb, leb, ltb, length, get_or, take, ℤ, Float}
+use Rattle.std.specs.Prelude.{ℕ, zero, suc, ◌-◌, ◌≤◌, ◌<◌, ◌≡◌, Bool, eqb, leb, ltb, length, get_or, take, ℤ, Float, Some}
 use Rattle.std.proofs.Math.Path.{refl}
 use Rattle.std.proofs.Common.{ap, ◌∙◌, arith, length-take, take_all, lt-ltb, ltb-true, le-leb, leb-true, ne_eqb}
 use Rattle.std.proofs.Math.Bool.{true, false}
 use mathlib.Core.List.{List, [], ◌∷◌, map}
-use Rattle.std.proofs.Math.Option.{some}
 use Rattle.std.proofs.lemmas.List.{length-map}
 use Rattle.std.specs.Float.{nan}
 use Rattle.std.proofs.lemmas.Bool.{eqb-false}
@@ -236,11 +235,11 @@ strips_well driver l h o =
     }
 
 -- a live list that is seen is known
-pub is_known : (s : Strips) (l : List Strip) → seen_strips s ≡ some l → s.known ≡ true
+pub is_known : (s : Strips) (l : List Strip) → seen_strips s ≡ Some l → s.known ≡ true
 unfolding seen_strips
 is_known s l e = go s.known e
   where
-    go : (b : Bool) → strips_if b (take s.count s.list) ≡ some l → b ≡ true
+    go : (b : Bool) → strips_if b (take s.count s.list) ≡ Some l → b ≡ true
     go true q = refl
     go false q = cc
 

@@ -6,7 +6,6 @@ ghost use Rattle.float.specs.Leaf.{f0};
 ghost use Rattle.session.specs.Session.{is_marked, mark_at, no_marks, unmark_bank, last_move, moved_to, seen_line, is_channel, move_of, place_move, has_place, is_encoder, wires_to, turns_up_to, turn, RoomToTurn};
 
 use crate::{Line, Marks, Move, Moves, Turns};
-use drivers::Level;
 use lookup::Destination;
 
 // ── marks ──
@@ -60,14 +59,14 @@ pub fn no_moves() -> Moves
 }
 
 // The last position seen there, if any.
-pub fn last_move(moves: Moves, k: usize) -> Level
+pub fn last_move(moves: Moves, k: usize) -> Option<f64>
     requires { k < 256 }
     ensures { result ≡ last_move k moves }
 {
     if moves.known[k] {
-        Level::At(moves.level[k])
+        Some(moves.level[k])
     } else {
-        Level::Unknown
+        None
     }
 }
 

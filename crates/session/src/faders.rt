@@ -1,13 +1,13 @@
 // The faders of live banks.
 ghost use Rattle.std.specs.Prelude.{◌≡◌, true, false, [], ◌+◌, ◌≤◌, ◌<◌, replicate, take};
-ghost use Rattle.std.proofs.Math.Option.{some};
+ghost use Rattle.std.specs.Prelude.{Some};
 ghost use Rattle.base.specs.Keyed.{at};
 ghost use Rattle.drivers.specs.Shown.{seen_faders};
 ghost use Rattle.session.specs.Session.{no_strip, no_strips, strips_at, strips_for, seen_strips, strips_or, is_strip, strip_at, strip_dest, found_strip, strip_of, strips_of, on_surface, same_strip, same_at, same_strips as same_strips_of, label_of};
 
 use crate::{Live, Strip, Strips};
 use drivers::{FaderList, LiveFader};
-use lookup::{Destination, Found};
+use lookup::Destination;
 
 fn no_strip() -> Strip
     ensures { result ≡ no_strip }
@@ -102,7 +102,7 @@ pub fn strip_destination(s: Strip) -> Destination
 }
 
 // What a live bank wires the fader to.
-pub fn strip_found(strips: Strips, number: u8) -> Found
+pub fn strip_found(strips: Strips, number: u8) -> Option<Destination>
     requires { strips.count ≤ 8 }
     ensures { result ≡ found_strip (strip_at number (strips_or (seen_strips strips))) }
 {
@@ -110,9 +110,9 @@ pub fn strip_found(strips: Strips, number: u8) -> Found
     let i = find_strip(strips, n, number);
     if i < n {
         let s = strips.list[i];
-        return Found::To(strip_destination(s));
+        return Some(strip_destination(s));
     }
-    Found::Nothing
+    None
 }
 
 fn same_strip(a: Strip, b: Strip) -> bool
@@ -160,7 +160,7 @@ pub fn same_strips(a: Strips, b: Strips) -> bool
 
 // A bank whose driver has no faders, or refused to say.
 pub fn no_faders() -> Strips
-    ensures result_value { seen_strips result ≡ some [] }
+    ensures result_value { seen_strips result ≡ Some [] }
     ensures count_bound { result.count ≤ 8 }
 {
     let mut t = no_strips();
@@ -201,7 +201,7 @@ fn on_surface(f: LiveFader) -> bool
 // The faders that a driver handed over: those of the surface, at most eight.
 pub fn handed_over(driver: u8, faders: FaderList) -> Strips
     requires { faders.count ≤ 32 }
-    ensures result_value { seen_strips result ≡ some (strips_of driver (seen_faders faders)) }
+    ensures result_value { seen_strips result ≡ Some (strips_of driver (seen_faders faders)) }
     ensures count_bound { result.count ≤ 8 }
 {
     let n = faders.count;

@@ -7,7 +7,6 @@ ghost use Rattle.float.specs.Leaf.{f0};
 ghost use Rattle.session.specs.Session.{hushed_up_to, same_target, is_hushed, hushed_level, hush as hush_of, unhush as unhush_of, has_room};
 
 use crate::Silenced;
-use drivers::Level;
 
 pub fn none_silenced() -> Silenced
     ensures { result ≡ record { targets = replicate 256 0; levels = replicate 256 f0; count = 0 } }
@@ -49,16 +48,16 @@ pub fn is_hushed(targets: &[u16; 256], n: usize, target: u16) -> bool
 }
 
 // The level kept for the target, if it is silenced.
-pub fn hushed_level(targets: &[u16; 256], levels: &[f64; 256], n: usize, target: u16) -> Level
+pub fn hushed_level(targets: &[u16; 256], levels: &[f64; 256], n: usize, target: u16) -> Option<f64>
     requires { n ≤ 256 }
     ensures { result ≡ hushed_level target (hushed_up_to n targets.now levels.now) }
 {
     let ls: &[f64] = levels;
     let i = find_in(targets, n, target);
     if i < n {
-        return Level::At(ls[i]);
+        return Some(ls[i]);
     }
-    Level::Unknown
+    None
 }
 
 // The target's level is kept, in its place or behind the others; how many there are then.

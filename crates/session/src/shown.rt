@@ -3,7 +3,6 @@ ghost use Rattle.std.specs.Prelude.{◌≡◌, true, false, ◌≤◌, ◌<◌};
 ghost use Rattle.session.specs.Session.{no_flash, none_lit, was_muted, note_muted, none_noted, solo_to, loaded_by, scene_at, scene_to, scene_unknown, flashing as flashing_of};
 
 use crate::{Flash, Lamps};
-use base::Place;
 
 pub fn no_flash() -> Flash
     ensures { result ≡ no_flash }
@@ -81,15 +80,15 @@ pub fn loaded_by(lamps: Lamps, fader: u8) -> Lamps
 }
 
 // Where the bank's device is in its scene list, if that is known.
-pub fn scene_at(lamps: Lamps, bank: u8) -> Place
+pub fn scene_at(lamps: Lamps, bank: u8) -> Option<usize>
     requires { bank < 16 }
     ensures { result ≡ scene_at bank lamps }
 {
     let b = bank as usize;
     if lamps.known[b] {
-        Place::At(lamps.scenes[b] as usize)
+        Some(lamps.scenes[b] as usize)
     } else {
-        Place::Nothing
+        None
     }
 }
 

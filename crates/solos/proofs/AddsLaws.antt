@@ -1,4 +1,5 @@
 -- What counting the targets that a press adds rests on: they are kept as the first n of an array, each once. Assumes nothing.
+use Rattle.std.proofs.Common.{None, Option, Some}
 use Prim.Native.Nat.{ℕ, zero, suc, ◌+◌, ◌-◌, ◌≤◌, ◌<◌}
 use mathlib.Core.Path.{◌≡◌, refl, sym, ap}
 use mathlib.Core.Bool.{Bool, true, false, ◌||◌, not, true≢false}
@@ -12,8 +13,6 @@ use Rattle.base.specs.Choice.{pick}
 use Rattle.base.specs.Keyed.{any_of, change}
 use Rattle.base.specs.KeyedLaws.{other_none}
 use Rattle.lookup.specs.declared.Destination.{Destination}
-use Rattle.lookup.specs.declared.Found.{Found}
-use Rattle.lookup.specs.declared.Found.TheVariants as found
 use Rattle.session.specs.Session.{is_hushed}
 use Rattle.definition.specs.Muting.{is_same, add_target, adding, solo_adds}
 use Rattle.solos.specs.Peers.{found_of, nobody, seen_peers}
@@ -68,18 +67,18 @@ module _ (m h : Bool) (target : ℕ) (ts l : List ℕ) (e : h ≡ is_hushed targ
 
 module _ (itself there : Bool) (d : Destination) (ts l : List ℕ) where
   -- the soloed fader itself, or one that is not of its group
-  pub passed_over : (itself || not there) ≡ true → l ≡ adding (pick itself found.Nothing (pick there (found.To d) found.Nothing)) ts l
+  pub passed_over : (itself || not there) ≡ true → l ≡ adding (pick itself None (pick there (Some d) None)) ts l
   passed_over q = go itself there q
     where
-      go : (a b : Bool) → (a || not b) ≡ true → l ≡ adding (pick a found.Nothing (pick b (found.To d) found.Nothing)) ts l
+      go : (a b : Bool) → (a || not b) ≡ true → l ≡ adding (pick a None (pick b (Some d) None)) ts l
       go true b k = refl
       go false true k = absurd (true≢false (sym k))
       go false false k = refl
 
-  pub taken_up : (itself || not there) ≡ false → adding (found.To d) ts l ≡ adding (pick itself found.Nothing (pick there (found.To d) found.Nothing)) ts l
+  pub taken_up : (itself || not there) ≡ false → adding (Some d) ts l ≡ adding (pick itself None (pick there (Some d) None)) ts l
   taken_up q = go itself there q
     where
-      go : (a b : Bool) → (a || not b) ≡ false → adding (found.To d) ts l ≡ adding (pick a found.Nothing (pick b (found.To d) found.Nothing)) ts l
+      go : (a b : Bool) → (a || not b) ≡ false → adding (Some d) ts l ≡ adding (pick a None (pick b (Some d) None)) ts l
       go true b k = absurd (true≢false k)
       go false true k = refl
       go false false k = absurd (true≢false k)
@@ -91,17 +90,17 @@ peer-at p n d h =
     let q : n + 1 - 1 ≡ n = omega arith in
     rw (q, other_none p.list n d nobody h)
 
-pub none-soloed : (of : ℕ → Found) (fader : ℕ) (ts : List ℕ) → [] ≡ solo_adds of fader ts 0
+pub none-soloed : (of : ℕ → Option Destination) (fader : ℕ) (ts : List ℕ) → [] ≡ solo_adds of fader ts 0
 unfolding solo_adds
 none-soloed of fader ts = refl
 
-pub one_more : (of : ℕ → Found) (fader : ℕ) (ts : List ℕ) (n : ℕ) →
-    adding (pick (eqb (n + 1) fader) found.Nothing (of (n + 1))) ts (solo_adds of fader ts n) ≡ solo_adds of fader ts (n + 1)
+pub one_more : (of : ℕ → Option Destination) (fader : ℕ) (ts : List ℕ) (n : ℕ) →
+    adding (pick (eqb (n + 1) fader) None (of (n + 1))) ts (solo_adds of fader ts n) ≡ solo_adds of fader ts (n + 1)
 unfolding solo_adds
 one_more of fader ts n = ap (solo_adds of fader ts) (sym (add-one n))
 
 -- what the faders 1 to n add depends on no other
-pub same_adds : (f g : ℕ → Found) (fader : ℕ) (ts : List ℕ) (n : ℕ) → ((k : ℕ) → 1 ≤ k → k ≤ n → f k ≡ g k) →
+pub same_adds : (f g : ℕ → Option Destination) (fader : ℕ) (ts : List ℕ) (n : ℕ) → ((k : ℕ) → 1 ≤ k → k ≤ n → f k ≡ g k) →
     solo_adds f fader ts n ≡ solo_adds g fader ts n
 unfolding solo_adds
 same_adds f g fader ts zero e = refl

@@ -1,4 +1,5 @@
 -- The peers of a fader counted up one at a time, room for each of them, and a solo over a table that has them. Assumes nothing.
+use Rattle.std.proofs.Common.{None, Option, Some}
 use Prim.Native.Nat.{ℕ, zero, suc, ◌+◌, ◌-◌, ◌≤◌, ◌<◌}
 use mathlib.Core.Path.{◌≡◌, refl, sym, subst, ap, ◌∙◌}
 use mathlib.Core.Bool.{Bool, true, false, not}
@@ -14,8 +15,6 @@ use Rattle.base.specs.Choice.{pick}
 use Rattle.base.specs.Keyed.{change, no_twice}
 use Rattle.base.specs.KeyedLaws.{change_longer}
 use Rattle.lookup.specs.declared.Destination.{Destination}
-use Rattle.lookup.specs.declared.Found.{Found}
-use Rattle.lookup.specs.declared.Found.TheVariants as found
 use Rattle.drivers.specs.Talk.{Talk, Got, got, next}
 use Rattle.session.specs.Session.{Hushed, targets_of, is_hushed, has_room, was_muted, none_noted}
 use Rattle.session.specs.SessionLaws.{same_hushed}
@@ -47,11 +46,11 @@ blank =
 pub numbered : (p : Peers) (n : ℕ) → n < length p.list → found_of (get_or p.list n blank) ≡ seen_peers p (n + 1)
 numbered p n h = peer-at p n blank h
 
-pub none_yet : (f g : ℕ → Found) (i : ℕ) → 1 ≤ i → i ≤ 0 → f i ≡ g i
+pub none_yet : (f g : ℕ → Option Destination) (i : ℕ) → 1 ≤ i → i ≤ 0 → f i ≡ g i
 none_yet f g i low high = absurd (omega arith)
 
 -- one more fader is put in: x is what it is wired to
-pub one-peer : (r : Rig) (group : ℕ) (xs : List Peer) (n : ℕ) (p : Peer) (x : Found) → n < length xs → found_of p ≡ in_group group x →
+pub one-peer : (r : Rig) (group : ℕ) (xs : List Peer) (n : ℕ) (p : Peer) (x : Option Destination) → n < length xs → found_of p ≡ in_group group x →
     x ≡ destination r (n + 1) → ((i : ℕ) → 1 ≤ i → i ≤ n → found_of (get_or xs (i - 1) nobody) ≡ peer r group i) →
     (i : ℕ) → 1 ≤ i → i ≤ n + 1 → found_of (get_or (set xs n p) (i - 1) nobody) ≡ peer r group i
 unfolding peer
@@ -69,12 +68,12 @@ one-peer r group xs n p x short a e before i low high = go (leb i n) refl
 
 -- ── off, one fader more ──
 
-module _ (of : ℕ → Found) (l : Lamps) (s : List Hushed) (t : Talk) where
+module _ (of : ℕ → Option Destination) (l : Lamps) (s : List Hushed) (t : Talk) where
   pub none_off : got s t ≡ solo_off of l 0 s t
   unfolding solo_off
   none_off = refl
 
-  pub one_off : (n : ℕ) (k m : List Hushed) (u v : Talk) (f : Found) (was : Bool) → got k u ≡ solo_off of l n s t → f ≡ of (n + 1) →
+  pub one_off : (n : ℕ) (k m : List Hushed) (u v : Talk) (f : Option Destination) (was : Bool) → got k u ≡ solo_off of l n s t → f ≡ of (n + 1) →
       was ≡ was_muted (n + 1) l → got m v ≡ off_to f was k u → got m v ≡ solo_off of l (n + 1) s t
   unfolding solo_off next
   one_off n k m u v f was a e q b =
@@ -86,13 +85,13 @@ module _ (of : ℕ → Found) (l : Lamps) (s : List Hushed) (t : Talk) where
 
 -- ── what was muted, one fader more ──
 
-module _ (of : ℕ → Found) (ts : List ℕ) (t : Talk) where
+module _ (of : ℕ → Option Destination) (ts : List ℕ) (t : Talk) where
   -- the lamps that the count starts with have nothing noted
   pub none-noted : (l m : Lamps) → m ≡ none_noted l → got m t ≡ note_mutes of ts 0 m t
   unfolding note_mutes none_noted
   none-noted l m e = rw e
 
-  pub one-noted : (l : Lamps) (n : ℕ) (k m : Lamps) (u v : Talk) (f : Found) → got k u ≡ note_mutes of ts n l t → f ≡ of (n + 1) →
+  pub one-noted : (l : Lamps) (n : ℕ) (k m : Lamps) (u v : Talk) (f : Option Destination) → got k u ≡ note_mutes of ts n l t → f ≡ of (n + 1) →
       got m v ≡ note_to f ts (n + 1) k u → got m v ≡ note_mutes of ts (n + 1) l t
   unfolding note_mutes next
   one-noted l n k m u v f a e b =
@@ -109,12 +108,12 @@ module _ (of : ℕ → Found) (ts : List ℕ) (t : Talk) where
 
 -- ── on, one fader more ──
 
-module _ (of : ℕ → Found) (fader : ℕ) (s : List Hushed) (t : Talk) where
+module _ (of : ℕ → Option Destination) (fader : ℕ) (s : List Hushed) (t : Talk) where
   pub none_on : got s t ≡ solo_on of fader 0 s t
   unfolding solo_on
   none_on = refl
 
-  pub one_on : (n : ℕ) (k m : List Hushed) (u v : Talk) (f : Found) → got k u ≡ solo_on of fader n s t → f ≡ of (n + 1) →
+  pub one_on : (n : ℕ) (k m : List Hushed) (u v : Talk) (f : Option Destination) → got k u ≡ solo_on of fader n s t → f ≡ of (n + 1) →
       got m v ≡ on_to f (not (eqb (n + 1) fader)) k u → got m v ≡ solo_on of fader (n + 1) s t
   unfolding solo_on next
   one_on n k m u v f a e b =
@@ -126,9 +125,9 @@ module _ (of : ℕ → Found) (fader : ℕ) (s : List Hushed) (t : Talk) where
 
 -- ── room for each peer ──
 
-adding_longer : (f : Found) (ts l : List ℕ) → length l ≤ length (adding f ts l)
-adding_longer found.Nothing ts l = omega arith
-adding_longer (found.To d) ts l = go (has_mute d)
+adding_longer : (f : Option Destination) (ts l : List ℕ) → length l ≤ length (adding f ts l)
+adding_longer None ts l = omega arith
+adding_longer (Some d) ts l = go (has_mute d)
   where
     at : (h : Bool) → length l ≤ length (pick h l (change (is_same (kept_by d)) (λ z. z) (kept_by d) l))
     at true = omega arith
@@ -139,7 +138,7 @@ adding_longer (found.To d) ts l = go (has_mute d)
     go false = at (is_hushed (kept_by d) ts)
 
 -- more faders add no fewer targets
-adds_longer : (of : ℕ → Found) (fader : ℕ) (ts : List ℕ) (m n : ℕ) → n ≤ m → length (solo_adds of fader ts n) ≤ length (solo_adds of fader ts m)
+adds_longer : (of : ℕ → Option Destination) (fader : ℕ) (ts : List ℕ) (m n : ℕ) → n ≤ m → length (solo_adds of fader ts n) ≤ length (solo_adds of fader ts m)
 unfolding solo_adds
 adds_longer of fader ts zero n h = let e : n ≡ 0 = omega arith in rw e (omega arith)
 adds_longer of fader ts (suc m) n h = go (leb n m) refl (adds_longer of fader ts m n)
@@ -147,7 +146,7 @@ adds_longer of fader ts (suc m) n h = go (leb n m) refl (adds_longer of fader ts
     go : (b : Bool) → leb n m ≡ b → (n ≤ m → length (solo_adds of fader ts n) ≤ length (solo_adds of fader ts m)) →
         length (solo_adds of fader ts n) ≤ length (solo_adds of fader ts (suc m))
     go true q before =
-        let f = pick (eqb (m + 1) fader) found.Nothing (of (m + 1)) in
+        let f = pick (eqb (m + 1) fader) None (of (m + 1)) in
         let a : length (solo_adds of fader ts n) ≤ length (solo_adds of fader ts m) = before (leb-true n m q) in
         let b : length (solo_adds of fader ts m) ≤ length (adding f ts (solo_adds of fader ts m)) = adding_longer f ts (solo_adds of fader ts m) in
         omega arith
@@ -157,7 +156,7 @@ adds_longer of fader ts (suc m) n h = go (leb n m) refl (adds_longer of fader ts
         rw e (omega arith)
 
 -- a destination that m covers has room, if m is not too long
-room_covered : (m : List ℕ) (k : List Hushed) (d : Destination) → Covered m (found.To d) → Within m k → length m ≤ 256 → room_for d (targets_of k) ≡ true
+room_covered : (m : List ℕ) (k : List Hushed) (d : Destination) → Covered m (Some d) → Within m k → length m ≤ 256 → room_for d (targets_of k) ≡ true
 room_covered m k d h w few = go (has_mute d) refl
   where
     go : (b : Bool) → has_mute d ≡ b → pick b true (has_room (kept_by d) (targets_of k)) ≡ true
@@ -171,19 +170,19 @@ both_fit s l few =
     omega arith
 
 -- k is within those held before and those added so far
-room_step : (s k : List Hushed) (adds : List ℕ) (self : Bool) (f : Found) → Within (targets_of s ++ adds) k →
-    length s + length (adding (pick self found.Nothing f) (targets_of s) adds) ≤ 256 → room_to f (not self) (targets_of k) ≡ true
+room_step : (s k : List Hushed) (adds : List ℕ) (self : Bool) (f : Option Destination) → Within (targets_of s ++ adds) k →
+    length s + length (adding (pick self None f) (targets_of s) adds) ≤ 256 → room_to f (not self) (targets_of k) ≡ true
 room_step s k adds true f w few = refl
-room_step s k adds false found.Nothing w few = refl
-room_step s k adds false (found.To d) w few =
-    room_covered (targets_of s ++ adding (found.To d) (targets_of s) adds) k d (adding_covers (targets_of s) adds (found.To d))
-    (grown (λ x. any_both (λ y. eqb y x) (targets_of s) adds (adding (found.To d) (targets_of s) adds) (adding-more (targets_of s) adds (found.To d) x)) w)
-    (both_fit s (adding (found.To d) (targets_of s) adds) few)
+room_step s k adds false None w few = refl
+room_step s k adds false (Some d) w few =
+    room_covered (targets_of s ++ adding (Some d) (targets_of s) adds) k d (adding_covers (targets_of s) adds (Some d))
+    (grown (λ x. any_both (λ y. eqb y x) (targets_of s) adds (adding (Some d) (targets_of s) adds) (adding-more (targets_of s) adds (Some d) x)) w)
+    (both_fit s (adding (Some d) (targets_of s) adds) few)
 
 -- of `top` faders, whose targets fit, the next of n has room
-pub room_on : (of : ℕ → Found) (fader top : ℕ) (s : List Hushed) (t : Talk) → no_twice eqb (targets_of s) ≡ true →
+pub room_on : (of : ℕ → Option Destination) (fader top : ℕ) (s : List Hushed) (t : Talk) → no_twice eqb (targets_of s) ≡ true →
     length s + length (solo_adds of fader (targets_of s) top) ≤ 256 → (n : ℕ) → n < top → (k : List Hushed) (u : Talk) →
-    got k u ≡ solo_on of fader n s t → (f : Found) → f ≡ of (n + 1) → room_to f (not (eqb (n + 1) fader)) (targets_of k) ≡ true
+    got k u ≡ solo_on of fader n s t → (f : Option Destination) → f ≡ of (n + 1) → room_to f (not (eqb (n + 1) fader)) (targets_of k) ≡ true
 unfolding solo_adds
 room_on of fader top s t o few n h k u a f e =
     let ts = targets_of s in
@@ -191,7 +190,7 @@ room_on of fader top s t o few n h k u a f e =
     let w : Within (ts ++ solo_adds of fader ts n) k =
     subst (Within (ts ++ solo_adds of fader ts n)) (sym (ap (λ g. g.value) a)) (solo_on_so s once of fader n t) in
     let next : length (solo_adds of fader ts (suc n)) ≤ length (solo_adds of fader ts top) = adds_longer of fader ts top (suc n) (omega arith) in
-    let fits : length s + length (adding (pick (eqb (n + 1) fader) found.Nothing (of (n + 1))) ts (solo_adds of fader ts n)) ≤ 256 = omega arith in
+    let fits : length s + length (adding (pick (eqb (n + 1) fader) None (of (n + 1))) ts (solo_adds of fader ts n)) ≤ 256 = omega arith in
     subst (λ x. room_to x (not (eqb (n + 1) fader)) (targets_of k) ≡ true) (sym e)
     (room_step s k (solo_adds of fader ts n) (eqb (n + 1) fader) (of (n + 1)) w fits)
 
@@ -199,13 +198,13 @@ room_on of fader top s t o few n h k u a f e =
 pub room_to_lem : (p : Peer) (silence b : Bool) (ts : List ℕ) → not p.there ≡ false → b ≡ has_mute p.dest → b ≡ false → silence ≡ true →
     room_to (found_of p) silence ts ≡ true → has_room (kept_by p.dest) ts ≡ true
 room_to_lem p silence b ts there e h q r =
-    let f : found_of p ≡ found.To p.dest = ap (λ x. pick x (found.To p.dest) found.Nothing) (not-false p.there there) in
+    let f : found_of p ≡ Some p.dest = ap (λ x. pick x (Some p.dest) None) (not-false p.there there) in
     room_for_lem p.dest ts b e h
     (subst (λ x. room_to x true ts ≡ true) f (subst (λ x. room_to (found_of p) x ts ≡ true) q r))
 
 -- ── two tables that agree on the faders 1 to n ──
 
-module _ (f g : ℕ → Found) where
+module _ (f g : ℕ → Option Destination) where
   abbrev Agree : ℕ → Type 0
   Agree n = (i : ℕ) → 1 ≤ i → i ≤ n → f i ≡ g i
 
@@ -251,7 +250,7 @@ module _ (r : Rig) (group : ℕ) (p : Peers) (are : ArePeers r group p) where
   solo-over b fader l s t m k u v a ts e q = ap (got (soloed_as m k)) (q ∙ ap (λ x. push_state r m x u) (sym e)) ∙ ap lit a ∙ over b fader l s t
 
 -- what a solo adds, counted over the table. x is what the fader is wired to, as the code has it
-pub room_over : (r : Rig) (fader : ℕ) (x : Found) (d : Destination) (p : Peers) → x ≡ destination r fader → x ≡ found.To d → ArePeers r d.group p →
+pub room_over : (r : Rig) (fader : ℕ) (x : Option Destination) (d : Destination) (p : Peers) → x ≡ destination r fader → x ≡ Some d → ArePeers r d.group p →
     (l : Lamps) (ts : List ℕ) (n : ℕ) → n + length (added_by_solo r fader l ts) ≤ 256 →
     n + length (pick (eqb l.soloed fader) [] (solo_adds (seen_peers p) fader ts 16)) ≤ 256
 unfolding added_by_solo

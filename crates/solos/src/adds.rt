@@ -1,15 +1,14 @@
 // Number 11: the targets that a press would silence beside those that are, each once.
-ghost use Rattle.std.specs.Prelude.{◌≡◌, true, [], ◌+◌, ◌≤◌, ◌<◌, length, take};
+ghost use Rattle.std.specs.Prelude.{◌≡◌, true, [], ◌+◌, ◌≤◌, ◌<◌, length, take, None, Some};
 ghost use Rattle.base.specs.Choice.{pick};
 ghost use Rattle.base.specs.Keyed.{any_of, change};
-ghost use Rattle.lookup.specs.declared.Found.TheVariants as found;
 ghost use Rattle.definition.specs.Muting.{is_same, adding as adding_of, solo_adds, added_by_solo, added_by_mute};
 ghost use Rattle.rig.specs.Seen.{rig_in};
 ghost use Rattle.solos.specs.Peers.{found_of, seen_peers, seen_added};
 
 use crate::peers;
 use crate::peers::{Peer, Peers};
-use lookup::{Destination, Found};
+use lookup::Destination;
 use rig::Current;
 use session::Lamps;
 
@@ -63,7 +62,7 @@ fn with_target(added: Added, target: u16) -> Added
 fn adding(added: Added, targets: &[u16; 256], hushed: usize, dest: Destination) -> Added
     requires count_bound { added.count < 16 }
     requires hushed_bound { hushed ≤ 256 }
-    ensures result_value { seen_added result ≡ adding_of (found.To dest) (take hushed targets.now) (seen_added added) }
+    ensures result_value { seen_added result ≡ adding_of (Some dest) (take hushed targets.now) (seen_added added) }
     ensures count_bound_2 { result.count ≤ added.count + 1 }
 {
     let target = rig::levels::kept_by(dest);
@@ -77,7 +76,7 @@ fn adding(added: Added, targets: &[u16; 256], hushed: usize, dest: Destination) 
 fn adding_peer(added: Added, targets: &[u16; 256], hushed: usize, peer: Peer, itself: bool) -> Added
     requires count_bound { added.count < 16 }
     requires hushed_bound { hushed ≤ 256 }
-    ensures result_value { seen_added result ≡ adding_of (pick itself found.Nothing (found_of peer)) (take hushed targets.now) (seen_added added) }
+    ensures result_value { seen_added result ≡ adding_of (pick itself None (found_of peer)) (take hushed targets.now) (seen_added added) }
     ensures count_bound_2 { result.count ≤ added.count + 1 }
 {
     if itself | !peer.there {
@@ -99,7 +98,7 @@ pub fn added_by_mute(
     requires hushed_bound { hushed ≤ 256 }
     ensures { result ≡ length (added_by_mute (rig_in profile.now here) fader (take hushed targets.now)) }
 {
-    let Found::To(d) = rig::here::destination(profile, here, fader) else {
+    let Some(d) = rig::here::destination(profile, here, fader) else {
         return 0;
     };
     let t = adding(none_added(), targets, hushed, d);
@@ -133,7 +132,7 @@ pub fn added_by_solo(
     requires hushed_bound { hushed ≤ 256 }
     ensures { result ≡ length (added_by_solo (rig_in profile.now here) fader lamps (take hushed targets.now)) }
 {
-    let Found::To(chosen) = rig::here::destination(profile, here, fader) else {
+    let Some(chosen) = rig::here::destination(profile, here, fader) else {
         return 0;
     };
     if lamps.soloed == fader {

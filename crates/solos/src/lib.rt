@@ -16,8 +16,8 @@ ghost use Rattle.solos.specs.Peers.{found_of, seen_peers, room_to, soloed_as};
 ghost use Rattle.solos.specs.Turns.{note_to, turned_off, turned_on, turned_over};
 ghost use Rattle.base.specs.Choice.{pick};
 
-use drivers::{Io, Level};
-use lookup::{Destination, Found};
+use drivers::Io;
+use lookup::Destination;
 use mutes::Muted;
 use peers::{Peer, Peers};
 use rig::Current;
@@ -41,10 +41,10 @@ fn hand_back_kept(
     // Lent as a slice, the levels are known to have all their places: each of the first targets has one.
     let ls: &[f64] = levels;
     match session::hushed_level(targets, levels, hushed, rig::levels::kept_by(dest)) {
-        Level::At(before) => mutes::hand_back(
+        Some(before) => mutes::hand_back(
             answers, calls, messages, io, dest, targets, levels, hushed, before,
         ),
-        Level::Unknown => Muted {
+        None => Muted {
             io: io,
             hushed: hushed,
         },
@@ -416,7 +416,7 @@ pub fn solo(
     ensures messages_after { got (soloed_as result.lamps (hushed_up_to result.hushed targets.new levels.new)) (shown answers.now result.io calls.new messages.new) ≡ solo_of (rig_in profile.now here) fader lamps (hushed_up_to hushed targets.old levels.old) (shown answers.now io calls.old messages.old) }
     ensures hushed_bound_2 { result.hushed ≤ 256 }
 {
-    let Found::To(chosen) = rig::here::destination(profile, here, fader) else {
+    let Some(chosen) = rig::here::destination(profile, here, fader) else {
         return Soloed {
             io: io,
             lamps: lamps,

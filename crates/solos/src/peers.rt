@@ -4,7 +4,7 @@ ghost use Rattle.definition.specs.Muting.{in_group};
 ghost use Rattle.rig.specs.Seen.{rig_in};
 ghost use Rattle.solos.specs.Peers.{found_of, ArePeers};
 
-use lookup::{Destination, Found};
+use lookup::Destination;
 use rig::Current;
 
 // A fader's destination, if it is of the group; where `there` is false it may be anything.
@@ -20,29 +20,29 @@ pub struct Peers {
     pub list: [Peer; 16],
 }
 
-fn peer_of(to: Found, chosen: Destination) -> Peer
+fn peer_of(to: Option<Destination>, chosen: Destination) -> Peer
     ensures { found_of result ≡ in_group chosen.group to }
 {
     match to {
-        Found::To(d) => Peer {
+        Some(d) => Peer {
             there: d.group == chosen.group,
             dest: d,
         },
-        Found::Nothing => Peer {
+        None => Peer {
             there: false,
             dest: chosen,
         },
     }
 }
 
-pub fn wired_to(peer: Peer) -> Found
+pub fn wired_to(peer: Peer) -> Option<Destination>
     ensures { result ≡ found_of peer }
 {
     if peer.there {
         let d = peer.dest;
-        return Found::To(d);
+        return Some(d);
     }
-    Found::Nothing
+    None
 }
 
 // The faders of the chosen one's group: globals precede the bank.
@@ -50,7 +50,7 @@ pub fn peers_of(profile: &[u8], here: Current, chosen: Destination) -> Peers
     requires { here.strips.count ≤ 8 }
     ensures { ArePeers (rig_in profile.now here) chosen.group result }
 {
-    let nobody = peer_of(Found::Nothing, chosen);
+    let nobody = peer_of(None, chosen);
     let mut t = Peers { list: [nobody; 16] };
     let mut n: u8 = 0;
     while n < 16 {

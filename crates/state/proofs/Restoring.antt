@@ -1,4 +1,5 @@
 -- A restore leaves a well-shaped session well shaped: it sets the current bank to one that the profile has, and positions, of which number 8 says nothing.
+use Rattle.std.proofs.Common.{None, Option, Some}
 use Prim.Native.Nat.{ℕ, zero, suc, ◌<◌}
 use mathlib.Core.Path.{◌≡◌, refl, ◌∙◌}
 use mathlib.Core.Bool.{Bool, true, false, ◌&&◌}
@@ -9,8 +10,6 @@ use Rattle.base.specs.Choice.{pick}
 use Rattle.base.specs.FirstLaws.{first-at}
 use Rattle.base.specs.Range.{every}
 use Rattle.base.specs.RangeLaws.{and_left, and_right}
-use Rattle.base.specs.declared.Place.{Place}
-use Rattle.base.specs.declared.Place.TheVariants.{At, Nothing}
 use Rattle.profile.specs.Profile.{bank_count}
 use Rattle.lookup.specs.Lookup.{bank_named, remember_of}
 use Rattle.session.specs.Session.{scene_to}
@@ -25,11 +24,11 @@ module _ (p s : List ℕ) where
   unfolding restore_device bank_named
   device-below k bank h = go (eqb (kind_at s k) 1) (bank_named p (name_at s k)) refl
     where
-      to : (w : Place) → bank_named p (name_at s k) ≡ w → bank_for w bank < bank_count p
-      to (At b) e = (first-at _ (bank_count p) b e).0
-      to Nothing e = h
+      to : (w : Option ℕ) → bank_named p (name_at s k) ≡ w → bank_for w bank < bank_count p
+      to (Some b) e = (first-at _ (bank_count p) b e).0
+      to None e = h
 
-      go : (b : Bool) (w : Place) → bank_named p (name_at s k) ≡ w → pick b (bank_for w bank) bank < bank_count p
+      go : (b : Bool) (w : Option ℕ) → bank_named p (name_at s k) ≡ w → pick b (bank_for w bank) bank < bank_count p
       go true w e = to w e
       go false w e = h
 
@@ -43,9 +42,9 @@ module _ (p s : List ℕ) where
   unfolding restore_scene scene_to
   scene_keeps k l = go (eqb (kind_at s k) 2) (bank_named p (name_at s k))
     where
-      go : (b : Bool) (w : Place) → (pick b (scene_for w (scene_in s k) l) l).flash ≡ l.flash
-      go true (At b) = refl
-      go true Nothing = refl
+      go : (b : Bool) (w : Option ℕ) → (pick b (scene_for w (scene_in s k) l) l).flash ≡ l.flash
+      go true (Some b) = refl
+      go true None = refl
       go false w = refl
 
   scenes-keep : (n : ℕ) (l : Lamps) → (restore_scenes p s n l).flash ≡ l.flash

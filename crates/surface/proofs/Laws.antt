@@ -1,4 +1,5 @@
 -- The channels and the phases of a flash counted up one at a time, and a flash from what its calls promise. Assumes nothing.
+use Rattle.std.proofs.Common.{Option}
 use mathlib.Core.Path.{◌≡◌, refl, sym, ap, subst, ◌∙◌}
 use mathlib.Core.Bool.{Bool, true, false, ◌&&◌}
 use mathlib.Core.List.{List}
@@ -12,7 +13,6 @@ use Rattle.base.specs.Choice.{pick}
 use Rattle.float.specs.Leaf.{f0, due_of, flash_over}
 use Rattle.protocol.specs.Protocol.{sent_to}
 use Rattle.drivers.specs.Talk.{Talk, got, send}
-use Rattle.drivers.specs.declared.Level.{Level}
 use Rattle.session.specs.Session.{flashing, no_flash}
 use Rattle.session.specs.declared.Flash.{Flash}
 use Rattle.session.specs.declared.Lamps.{Lamps}
@@ -80,7 +80,7 @@ note_of_lem f h e = leb-true (f.base + f.column) 255 (subst (λ (b : Bool). pick
 
 -- ── a flash: home is the last move of its row's fader ──
 
-module _ (r : Rig) (l : Lamps) (s : List ℕ) (home : Level) (t : Talk) where
+module _ (r : Rig) (l : Lamps) (s : List ℕ) (home : Option Float) (t : Talk) where
   pub no_end : l.flash.on ≡ false → Finishes r l s home t t
   unfolding finish_flash
   no_end e m h = rw e

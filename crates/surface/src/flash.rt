@@ -7,7 +7,7 @@ ghost use Rattle.rig.specs.Seen.{rig_in};
 ghost use Rattle.surface.specs.Home.{has_note, Finishes, Shows, Plays};
 
 use crate::lamps::{push_state, send_level};
-use drivers::{Io, Level};
+use drivers::Io;
 use rig::Current;
 use session::{Flash, Lamps};
 
@@ -64,7 +64,7 @@ pub fn finish_flash(
     lamps: Lamps,
     targets: &[u16; 256],
     hushed: usize,
-    home: Level,
+    home: Option<f64>,
 ) -> Io
     requires count_bound { here.strips.count ≤ 8 }
     requires hushed_bound { hushed ≤ 256 }
@@ -93,7 +93,7 @@ pub fn flash_number(
     lamps: Lamps,
     targets: &[u16; 256],
     hushed: usize,
-    home: Level,
+    home: Option<f64>,
     time: f64,
     n: usize,
     base: u8,
@@ -149,7 +149,7 @@ pub fn tick_flash(
     lamps: Lamps,
     targets: &[u16; 256],
     hushed: usize,
-    home: Level,
+    home: Option<f64>,
     time: f64,
 ) -> Flashed
     requires count_bound { here.strips.count ≤ 8 }

@@ -7,8 +7,8 @@ ghost use Rattle.definition.specs.Levels.{read as read_of, has_mute};
 ghost use Rattle.definition.specs.Lamps.{send_level, read_and_send, position_for, muted_if, muted_to, push_fader, push_state};
 ghost use Rattle.rig.specs.Seen.{rig_in};
 
-use drivers::{Io, Level, Tried};
-use lookup::{Destination, Found};
+use drivers::{Io, Tried};
+use lookup::Destination;
 use rig::Current;
 use session::Lamps;
 
@@ -43,7 +43,7 @@ pub fn is_muted(
     calls: &mut [u8; 5392],
     messages: &mut [u8; 306],
     io: Io,
-    to: Found,
+    to: Option<Destination>,
     targets: &[u16; 256],
     hushed: usize,
 ) -> Tried
@@ -51,8 +51,8 @@ pub fn is_muted(
     ensures { got result.ok (shown answers.now result.io calls.new messages.new) ≡ muted_to to (take hushed targets.now) (shown answers.now io calls.old messages.old) }
 {
     match to {
-        Found::To(d) => is_muted_at(answers, calls, messages, io, d, targets, hushed),
-        Found::Nothing => Tried { io: io, ok: false },
+        Some(d) => is_muted_at(answers, calls, messages, io, d, targets, hushed),
+        None => Tried { io: io, ok: false },
     }
 }
 
@@ -63,13 +63,13 @@ pub fn send_level(
     messages: &mut [u8; 306],
     io: Io,
     channel: u8,
-    level: Level,
+    level: Option<f64>,
 ) -> Io
     ensures { shown answers.now result calls.new messages.new ≡ send_level channel level (shown answers.now io calls.old messages.old) }
 {
     match level {
-        Level::At(x) => drivers::send_position(answers, calls, messages, io, channel, x),
-        Level::Unknown => io,
+        Some(x) => drivers::send_position(answers, calls, messages, io, channel, x),
+        None => io,
     }
 }
 
@@ -97,7 +97,7 @@ fn push_position(
     io: Io,
     profile: &[u8],
     channel: u8,
-    to: Found,
+    to: Option<Destination>,
 ) -> Io
     ensures { shown answers.now result calls.new messages.new ≡ position_for (positions_of profile.now) channel to (shown answers.now io calls.old messages.old) }
 {
@@ -105,8 +105,8 @@ fn push_position(
         return io;
     }
     match to {
-        Found::To(d) => read_and_send(answers, calls, messages, io, channel, d),
-        Found::Nothing => io,
+        Some(d) => read_and_send(answers, calls, messages, io, channel, d),
+        None => io,
     }
 }
 

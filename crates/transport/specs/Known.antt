@@ -1,6 +1,5 @@
 -- The players that the transport lamps of one event have asked: the first `count` of an array, as the definition has them. Definitions only.
-use Rattle.std.specs.Prelude.{ℕ, zero, suc, ◌/◌, ◌%◌, List, [], ◌∷◌, ◌++◌, map, eqb, get_or, take}
-use Rattle.std.proofs.Math.Option.{Option, none, some}
+use Rattle.std.specs.Prelude.{ℕ, zero, suc, ◌/◌, ◌%◌, List, [], ◌∷◌, ◌++◌, map, eqb, get_or, take, None, Option, Some}
 use Rattle.base.specs.Keyed.{find}
 use Rattle.protocol.specs.Protocol.{transport_note}
 use Rattle.lookup.specs.declared.Command.{Command}
@@ -18,8 +17,8 @@ seen_players n l = map player_of (take n l)
 
 -- a player that is known is not asked again; another is, and comes behind
 abbrev pub meet_one : Option Player → Command → List Player → Act (List Player)
-meet_one (some p) c known t = got known t
-meet_one none c known t = next (playing_of c.driver c.target t) (λ b. got (known ++ (met c b ∷ [])))
+meet_one (Some p) c known t = got known t
+meet_one None c known t = next (playing_of c.driver c.target t) (λ b. got (known ++ (met c b ∷ [])))
 
 unfoldable pub meeting : Command → List Player → Act (List Player)
 meeting c known t = meet_one (find (is_player c) known) c known t

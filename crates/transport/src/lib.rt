@@ -14,7 +14,6 @@ ghost use Rattle.transport.specs.Known.{player_of, seen_players, meeting};
 
 use drivers::Io;
 use lookup::{Command, Entry};
-use protocol::Found;
 
 #[derive(Clone, Copy)]
 struct Met {
@@ -91,7 +90,7 @@ fn push_bound(
 {
     // Lent as a slice, the players are known to have all their places.
     let ps: &[u32] = players;
-    let Found::At(note) = protocol::transport_note(e.kind) else {
+    let Some(note) = protocol::transport_note(e.kind) else {
         return Met {
             io: io,
             count: count,

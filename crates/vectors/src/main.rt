@@ -2,7 +2,7 @@
 
 // Runs the codec over messages and prints what each says and what is sent back for it. The input has a message to a line, in hexadecimal; what
 // follows a '#' is a remark, and a line that starts with one is no message.
-use protocol::{Button, Event, Found};
+use protocol::{Button, Event};
 
 const STDOUT_FILENO: i32 = 1;
 
@@ -66,21 +66,21 @@ fn say_delta(delta: i32) {
 
 fn say_channel(button: Button) {
     match button.channel() {
-        Found::At(c) => {
+        Some(c) => {
             say(b" channel ");
             say_number(c);
         }
-        Found::Nothing => {}
+        None => {}
     }
 }
 
 fn say_note(kind: u8) {
     match protocol::transport_note(kind) {
-        Found::At(n) => {
+        Some(n) => {
             say(b" lights ");
             io::print_hex(STDOUT_FILENO, n as u64, 2);
         }
-        Found::Nothing => {}
+        None => {}
     }
 }
 

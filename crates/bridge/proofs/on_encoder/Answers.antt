@@ -43,8 +43,8 @@ returns-in_default c =
 
 pub overflow_cast-k : goal.overflow_cast-k
 overflow_cast-k c =
-    let h : c.in-At.at < 65536 =
-    place_low c.args.profile.now c.args.session.bank (c.args.channel + 1) c.in-At.at (sym c.encoder_record.ensures ∙ c.in-At.is) c.requires.profile_value in
+    let h : c.in-Some.at < 65536 =
+    place_low c.args.profile.now c.args.session.bank (c.args.channel + 1) c.in-Some.at (sym c.encoder_record.ensures ∙ c.in-Some.is) c.requires.profile_value in
     record { fits = h }
 
 pub turn_declined-why-requires : goal.turn_declined-why-requires
@@ -57,7 +57,7 @@ turn_declined-why-requires c =
     record {
       n_bound = turns_few p s e;
       records_value = turns_wired p s e;
-      k_value = place-encoder p s.bank (c.args.channel + 1) c.in-At.at (sym c.encoder_record.ensures ∙ c.in-At.is);
+      k_value = place-encoder p s.bank (c.args.channel + 1) c.in-Some.at (sym c.encoder_record.ensures ∙ c.in-Some.is);
       sums_fit = fit p s c.args.delta records_long sums_long e c.requires.delta_value c.ranges.delta;
     }
 
@@ -66,8 +66,8 @@ returns-then-why-ne0 c =
     let p = c.args.profile.now in
     let s = c.args.session in
     rw c.stays-then-why-ne0.ensures
-    (unturned p s c.args.channel c.args.delta c.requires.session_value c.in-At.at c.turn_declined-why.result (sym c.encoder_record.ensures ∙ c.in-At.is)
-    (why p s c.args.delta c.in-At.at c.turn_declined-why.result c.ranges.delta c.turn_declined-why.ensures) c.if-why-ne0.true)
+    (unturned p s c.args.channel c.args.delta c.requires.session_value c.in-Some.at c.turn_declined-why.result (sym c.encoder_record.ensures ∙ c.in-Some.is)
+    (why p s c.args.delta c.in-Some.at c.turn_declined-why.result c.ranges.delta c.turn_declined-why.ensures) c.if-why-ne0.true)
 
 pub turned-count-requires : goal.turned-count-requires
 turned-count-requires c =
@@ -76,19 +76,19 @@ turned-count-requires c =
     let e = c.requires.session_value in
     let records_long : length s.turns.records ≡ 136 = search (long, c.well_formed.0.1.1.1.1.1.1.1.1) in
     let sums_long : length s.turns.sums ≡ 136 = search (long, c.well_formed.0.1.1.1.1.1.1.1.1) in
-    turn_room p s.turns records_long sums_long (turns_few p s e) c.in-At.at (to_z w32 (of_z w32 c.args.delta)) (turns_wired p s e)
-    (place-encoder p s.bank (c.args.channel + 1) c.in-At.at (sym c.encoder_record.ensures ∙ c.in-At.is))
+    turn_room p s.turns records_long sums_long (turns_few p s e) c.in-Some.at (to_z w32 (of_z w32 c.args.delta)) (turns_wired p s e)
+    (place-encoder p s.bank (c.args.channel + 1) c.in-Some.at (sym c.encoder_record.ensures ∙ c.in-Some.is))
     (fit p s c.args.delta records_long sums_long e c.requires.delta_value c.ranges.delta) (sym c.turn_declined-why.ensures ∙ c.if-why-ne0.false)
 
 pub returns : goal.returns
 returns c =
     let p = c.args.profile.now in
     let s = c.args.session in
-    let i = c.in-At.at in
+    let i = c.in-Some.at in
     let opened_long : length s.opened ≡ 16 = search (long, c.well_formed.0.1.1.1.1.1.1.1.1.1.1.1) in
     rw c.turned-t.ensures
     (turned p s c.args.channel c.args.delta c.requires.session_value i _ c.nothing-o-2.result c.requires.profile_value opened_long c.requires.channel_bound
-    c.requires.delta_value (sym c.encoder_record.ensures ∙ c.in-At.is)
+    c.requires.delta_value (sym c.encoder_record.ensures ∙ c.in-Some.is)
     (sym (why p s c.args.delta i c.turn_declined-why.result c.ranges.delta c.turn_declined-why.ensures) ∙ c.if-why-ne0.false)
     (c.turned-count.ensures.sums_after ∙ ap (λ (z : ℤ). turn (dest_at p i) z (seen_turns p s.turns)) (to_z-of_z w32 c.args.delta c.ranges.delta))
     c.turned-count.ensures.records_after c.turned-count.ensures.upper_bound c.nothing-o-2.ensures)

@@ -55,24 +55,24 @@ on_event-requires c =
     let told : c.shaped_parts.result ≡ well_shaped c.args.profile.now c.args.session = c.shaped_parts.ensures c.args.session (own_parts c.args.session levels_long) in
     let passed : declined_of c.args.profile.now c.args.session (length c.args.messages.now) (length c.args.calls.now) ≡ 0 =
     rw (← c.examine-why.ensures, eq-eqb _ _ c.if-why-ne0.false, sym told ∙ not-false c.shaped_parts.result c.if-not-shaped_parts.false-raw, c.if-messages-calls.false) in
-    let w = passes c.args.profile.now c.args.session c.args.event.now c.args.answers.now _ _ passed in record { profile_value = w.accepted; session_value = w.shaped; in_bounds = w.messages; in_bounds_2 = w.calls; low_input = read_low c.args.event.now (λ j. omega (arith, c.shared_slice_known-2-1.given j)) _ (sym c.read_event.ensures ∙ c.in-Known.is) }
+    let w = passes c.args.profile.now c.args.session c.args.event.now c.args.answers.now _ _ passed in record { profile_value = w.accepted; session_value = w.shaped; in_bounds = w.messages; in_bounds_2 = w.calls; low_input = read_low c.args.event.now (λ j. omega (arith, c.shared_slice_known-2-1.given j)) _ (sym c.read_event.ensures ∙ c.in-Some.is) }
 
-pub returns-in-Known : goal.returns-in-Known
-returns-in-Known c =
+pub returns-in-Some : goal.returns-in-Some
+returns-in-Some c =
     let levels_long : length c.args.session.silenced.levels ≡ 256 = search (long, c.well_formed.0.1.1.1.1.1.1.1.1.1.1.1.0) in
     let told : c.shaped_parts.result ≡ well_shaped c.args.profile.now c.args.session = c.shaped_parts.ensures c.args.session (own_parts c.args.session levels_long) in
     let passed : declined_of c.args.profile.now c.args.session (length c.args.messages.now) (length c.args.calls.now) ≡ 0 =
     rw (← c.examine-why.ensures, eq-eqb _ _ c.if-why-ne0.false, sym told ∙ not-false c.shaped_parts.result c.if-not-shaped_parts.false-raw, c.if-messages-calls.false) in
     passes_on c.args.profile.now c.args.session c.args.event.now c.args.answers.now _ _ passed c.read_event.result _ c.read_event.ensures
-    c.in-Known.is _ _ _ _ _ c.on_event.ensures
+    c.in-Some.is _ _ _ _ _ c.on_event.ensures
 
-pub returns-in-Unknown : goal.returns-in-Unknown
-returns-in-Unknown c =
+pub returns-in-None : goal.returns-in-None
+returns-in-None c =
     let levels_long : length c.args.session.silenced.levels ≡ 256 = search (long, c.well_formed.0.1.1.1.1.1.1.1.1.1.1.1.0) in
     let told : c.shaped_parts.result ≡ well_shaped c.args.profile.now c.args.session = c.shaped_parts.ensures c.args.session (own_parts c.args.session levels_long) in
     let passed : declined_of c.args.profile.now c.args.session (length c.args.messages.now) (length c.args.calls.now) ≡ 0 =
     rw (← c.examine-why.ensures, eq-eqb _ _ c.if-why-ne0.false, sym told ∙ not-false c.shaped_parts.result c.if-not-shaped_parts.false-raw, c.if-messages-calls.false) in
-    rw c.stays-in-Unknown.ensures
+    rw c.stays-in-None.ensures
     (declines _ 10 _ _ _ _
     (unread c.args.profile.now c.args.session c.args.event.now c.args.answers.now _ _ passed c.read_event.result c.read_event.ensures
-    c.in-Unknown.is))
+    c.in-None.is))

@@ -1,3 +1,4 @@
+use Rattle.std.proofs.Common.{Option}
 use Prim.Native.Nat.{◌+◌, ◌*◌, ◌%◌, ◌≤◌, ◌<◌}
 use mathlib.Core.Path.{◌≡◌, refl, sym, ap, subst, ◌∙◌}
 use mathlib.Core.Bool.{true}
@@ -15,7 +16,6 @@ use Rattle.event.specs.declared.Timed.{Timed}
 use Rattle.session.specs.declared.Session.{Session}
 use Rattle.definition.specs.Shape.{well_shaped}
 use Rattle.profile.specs.Accepted.{few_banks}
-use Rattle.drivers.specs.declared.Level.{Level}
 use Rattle.session.specs.Session.{last_move, hushed_up_to, targets_of}
 use Rattle.definition.specs.Live.{is_due}
 use Rattle.definition.specs.Step.{seen, refusal}
@@ -63,7 +63,7 @@ module _ (profile : List ℕ) (session : Session) (targets : List ℕ) (levels :
       (fits_so profile session here e.time (rig_now_lem profile session ∙ rig_is profile session session.bank here i) (omega (arith, few, targets_long))
       (omega (arith, few, levels_long)) few e.what r z)
 
-  given_at : (after : ℕ) (here there : Current) (home : Level) → well_shaped profile session ≡ true → targets ≡ session.silenced.targets →
+  given_at : (after : ℕ) (here there : Current) (home : Option Float) → well_shaped profile session ≡ true → targets ≡ session.silenced.targets →
       levels ≡ session.silenced.levels → IsCurrent session.live session.bank here → IsCurrent session.live after there →
       home ≡ last_move (after * 16 + session.lamps.flash.row % 16) session.moves →
       Given profile (seen profile session) here there session.lamps (hushed_up_to session.silenced.count targets levels) home

@@ -1,4 +1,4 @@
 use Rattle.commands.proofs.is_scene.Goals as goal
 
-pub returns-in-Run : goal.returns-in-Run
-returns-in-Run c = rw c.in-Run.is
+pub returns-in-Some : goal.returns-in-Some
+returns-in-Some c = rw c.in-Some.is

@@ -10,4 +10,4 @@ pub returns : goal.returns
 returns c = let o = c in
     let told = o in
     let b = told.transport_in_reach-bound in
-    runs-offered _ _ _ _ b.result b.ensures told.in-Nothing.is _ _ o.default_button-o.ensures c.run_bound-2.ensures
+    runs-offered _ _ _ _ b.result b.ensures told.in-None.is _ _ o.default_button-o.ensures c.run_bound-2.ensures

@@ -3,10 +3,10 @@ use Rattle.lookup.specs.Lookup.{encoder_place}
 use Rattle.lookup.specs.LookupLaws.{place_there, place_elsewhere}
 use Rattle.lookup.proofs.encoder_record.Goals as goal
 
-pub returns-in-At : goal.returns-in-At
+pub returns-in-Some : goal.returns-in-Some
 unfolding encoder_place
-returns-in-At c = search place_there
+returns-in-Some c = search place_there
 
-pub returns-in-Nothing : goal.returns-in-Nothing
+pub returns-in-None : goal.returns-in-None
 unfolding encoder_place
-returns-in-Nothing c = search place_elsewhere
+returns-in-None c = search place_elsewhere

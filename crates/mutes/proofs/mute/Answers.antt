@@ -20,7 +20,7 @@ returns-in_default c = record {
 
 pub mute_at-m-requires : goal.mute_at-m-requires
 mute_at-m-requires c = let b = c in
-    record { hushed_bound = b.requires.hushed_bound; targets_value = room_at_lem _ _ _ _ c.destination.ensures c.in-To.is b.requires.targets_value }
+    record { hushed_bound = b.requires.hushed_bound; targets_value = room_at_lem _ _ _ _ c.destination.ensures c.in-Some.is b.requires.targets_value }
 
 pub returns : goal.returns
 unfolding mute next
@@ -32,7 +32,7 @@ returns c =
     let l : length ls ≡ 256 = c.ls-2-1.given in record {
       messages_after = rw (
         ← c.destination.ensures,
-        c.in-To.is,
+        c.in-Some.is,
         ← m.ensures.messages_after,
         targets_seen m.result.hushed ts ls (omega arith),
         ← c.push_state-v.ensures,

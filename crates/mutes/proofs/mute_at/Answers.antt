@@ -18,7 +18,7 @@ hand_back-requires c = record {
   before_value = rw (
     ← c.kept_by.ensures,
     ← c.hushed_level.ensures,
-    c.in-At.is,
+    c.in-Some.is,
   );
 }
 
@@ -28,10 +28,10 @@ zeroed-requires c =
     let m = c.has_mute in
     record { hushed_bound = b.requires.hushed_bound; targets_value = room_for_lem b.args.dest (take b.args.hushed b.args.targets.now) _ m.ensures c.if-has_mute.false b.requires.targets_value }
 
-pub returns-in-At : goal.returns-in-At
-returns-in-At c =
+pub returns-in-Some : goal.returns-in-Some
+returns-in-Some c =
     let l = c.hushed_level in
-    let e = is_hushed_lem _ _ _ _ l.ensures c.in-At.is in record {
+    let e = is_hushed_lem _ _ _ _ l.ensures c.in-Some.is in record {
       messages_after = rw (
         ← c.has_mute.ensures,
         c.if-has_mute.false,
@@ -42,10 +42,10 @@ returns-in-At c =
       hushed_bound_2 = c.hand_back.ensures.hushed_bound_2;
     }
 
-pub returns-in-Unknown : goal.returns-in-Unknown
-returns-in-Unknown c =
+pub returns-in-None : goal.returns-in-None
+returns-in-None c =
     let l = c.hushed_level in
-    let e = not_hushed _ _ _ l.ensures c.in-Unknown.is in record {
+    let e = not_hushed _ _ _ l.ensures c.in-None.is in record {
       messages_after = rw (
         ← c.has_mute.ensures,
         c.if-has_mute.false,

@@ -7,13 +7,13 @@ hand_back-requires c = record {
   before_value = rw (
     ← c.kept_by.ensures,
     ← c.hushed_level.ensures,
-    c.in-At.is,
+    c.in-Some.is,
   );
 }
 
-pub returns-in-At : goal.returns-in-At
-returns-in-At c = let l = c.hushed_level in
-    let e = is_hushed_lem _ _ _ _ l.ensures c.in-At.is in record {
+pub returns-in-Some : goal.returns-in-Some
+returns-in-Some c = let l = c.hushed_level in
+    let e = is_hushed_lem _ _ _ _ l.ensures c.in-Some.is in record {
       messages_after = rw (
         ← c.kept_by.ensures,
         e,
@@ -22,7 +22,7 @@ returns-in-At c = let l = c.hushed_level in
       hushed_bound = c.hand_back.ensures.hushed_bound_2;
     }
 
-pub returns-in-Unknown : goal.returns-in-Unknown
-returns-in-Unknown c = let l = c.hushed_level in
-    let e = not_hushed _ _ _ l.ensures c.in-Unknown.is in
+pub returns-in-None : goal.returns-in-None
+returns-in-None c = let l = c.hushed_level in
+    let e = not_hushed _ _ _ l.ensures c.in-None.is in
     record { messages_after = rw (← c.kept_by.ensures, e); hushed_bound = c.requires }

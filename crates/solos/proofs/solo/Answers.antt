@@ -18,7 +18,7 @@ pub turn_over-s-requires : goal.turn_over-s-requires
 turn_over-s-requires c = let b = c in
     let p = c.peers_of-peers in
     let to = c.destination in
-    record { hushed_bound = b.requires.hushed_bound; levels_value = b.requires.levels_value; levels_len_bound = room_over _ _ _ _ p.result to.ensures c.in-To.is p.ensures _ _ _ b.requires.levels_len_bound }
+    record { hushed_bound = b.requires.hushed_bound; levels_value = b.requires.levels_value; levels_len_bound = room_over _ _ _ _ p.result to.ensures c.in-Some.is p.ensures _ _ _ b.requires.levels_len_bound }
 
 pub push_state-v-requires : goal.push_state-v-requires
 push_state-v-requires c = let b = c in
@@ -36,7 +36,7 @@ returns c = let a = c.args in
     let e = targets_seen m.result.hushed ts ls (omega arith) in record {
       messages_after = rw (
         ← c.destination.ensures,
-        c.in-To.is,
+        c.in-Some.is,
       )
           (solo-over _ _ p.result p.ensures (eqb a.lamps.soloed a.fader) a.fader a.lamps (hushed_up_to a.hushed a.targets.now a.levels.now)
           (shown a.answers.now a.io a.calls.now a.messages.now) _ _ _ _ m.ensures.messages_after _ e c.push_state-v.ensures);

@@ -18,4 +18,4 @@ returns c = let z = c in
     let t = shown a.answers.now a.io a.calls.now a.messages.now in
     let u = shown a.answers.now m.result.io m.new.calls m.new.messages in
     let q = lit_kth a.e.command (seen_players a.count a.players.now) a.k b.requires.k_value _ t ps m.result.count u m.ensures.k_lt_count.0 m.ensures.messages_after in
-    record { messages_after = rw (← y.transport_note.ensures, y.in-At.is, c.send_led-v.ensures) q; count_bound_2 = (m.ensures.k_lt_count.1, m.ensures.k_lt_count.2) }
+    record { messages_after = rw (← y.transport_note.ensures, y.in-Some.is, c.send_led-v.ensures) q; count_bound_2 = (m.ensures.k_lt_count.1, m.ensures.k_lt_count.2) }

@@ -9,15 +9,15 @@ overflow_add-m c =
     let h : b.args.m.channel ≤ 15 = leb-true b.args.m.channel 15 b.requires.m_value in
     search (rules, h)
 
-pub returns-in-To : goal.returns-in-To
-returns-in-To c = rw (
+pub returns-in-Some : goal.returns-in-Some
+returns-in-Some c = rw (
   ← c.destination.ensures,
-  c.in-To.is,
+  c.in-Some.is,
   ← c.write_move.ensures,
 )
 
-pub returns-in-Nothing : goal.returns-in-Nothing
-returns-in-Nothing c = rw (
+pub returns-in-None : goal.returns-in-None
+returns-in-None c = rw (
   ← c.destination.ensures,
-  c.in-Nothing.is,
+  c.in-None.is,
 )

@@ -1,8 +1,8 @@
 use mathlib.Core.Path.{refl}
 use Rattle.hands.proofs.faders.fader.Goals as goal
 
-pub returns-in-To : goal.returns-in-To
-returns-in-To c = rw (← c.destination.ensures, c.in-To.is) c.fader_at.ensures
+pub returns-in-Some : goal.returns-in-Some
+returns-in-Some c = rw (← c.destination.ensures, c.in-Some.is) c.fader_at.ensures
 
-pub returns-in-Nothing : goal.returns-in-Nothing
-returns-in-Nothing c = rw (← c.destination.ensures, c.in-Nothing.is) (λ k ch d i j. refl)
+pub returns-in-None : goal.returns-in-None
+returns-in-None c = rw (← c.destination.ensures, c.in-None.is) (λ k ch d i j. refl)

@@ -1,15 +1,15 @@
 use Rattle.hands.proofs.faders.in_control.Goals as goal
 
 -- src/faders.rt:33:1
-pub returns-in-To : goal.returns-in-To
-returns-in-To c = rw (
+pub returns-in-Some : goal.returns-in-Some
+returns-in-Some c = rw (
   ← c.destination.ensures,
-  c.in-To.is,
+  c.in-Some.is,
 )
 
 -- src/faders.rt:33:1
-pub returns-in-Nothing : goal.returns-in-Nothing
-returns-in-Nothing c = rw (
+pub returns-in-None : goal.returns-in-None
+returns-in-None c = rw (
   ← c.destination.ensures,
-  c.in-Nothing.is,
+  c.in-None.is,
 )

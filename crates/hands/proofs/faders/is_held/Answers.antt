@@ -2,13 +2,13 @@ use mathlib.Core.Path.{sym}
 use mathlib.Core.Bool.{and-true}
 use Rattle.hands.proofs.faders.is_held.Goals as goal
 
-pub returns-in-At-last : goal.returns-in-At-last
-returns-in-At-last c = rw (
-  c.in-At.is,
+pub returns-in-Some-last : goal.returns-in-Some-last
+returns-in-Some-last c = rw (
+  c.in-Some.is,
   ← c.far-far.ensures,
-  c.in-At-last.is,
+  c.in-Some-last.is,
   ← c.crossed.ensures,
 )
 
-pub returns-in-Unknown : goal.returns-in-Unknown
-returns-in-Unknown c = rw (c.in-At.is, ← c.far-far.ensures, c.in-Unknown.is) (sym (and-true c.far-far.result))
+pub returns-in-None : goal.returns-in-None
+returns-in-None c = rw (c.in-Some.is, ← c.far-far.ensures, c.in-None.is) (sym (and-true c.far-far.result))

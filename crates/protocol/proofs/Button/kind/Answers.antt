@@ -5,35 +5,35 @@ use Rattle.protocol.specs.Protocol.{kind_of}
 use Rattle.protocol.proofs.Button.kind.Goals as goal
 
 pub overflow_cast-result : goal.overflow_cast-result
-overflow_cast-result c = omega (arith, (base_at _ _ (sym c.base_of.ensures ∙ c.in-At.is)).0)
+overflow_cast-result c = omega (arith, (base_at _ _ (sym c.base_of.ensures ∙ c.in-Some.is)).0)
 
 pub overflow_add-result : goal.overflow_add-result
-overflow_add-result c = omega (arith, named-at _ _ (sym c.named_of.ensures ∙ c.in-At-named_of.is))
+overflow_add-result c = omega (arith, named-at _ _ (sym c.named_of.ensures ∙ c.in-Some-named_of.is))
 
-pub overflow_cast-result-in-At-named_of : goal.overflow_cast-result-in-At-named_of
-overflow_cast-result-in-At-named_of c = omega (arith, named-at _ _ (sym c.named_of.ensures ∙ c.in-At-named_of.is))
+pub overflow_cast-result-in-Some-named_of : goal.overflow_cast-result-in-Some-named_of
+overflow_cast-result-in-Some-named_of c = omega (arith, named-at _ _ (sym c.named_of.ensures ∙ c.in-Some-named_of.is))
 
-pub returns-in-At : goal.returns-in-At
+pub returns-in-Some : goal.returns-in-Some
 unfolding kind_of
-returns-in-At c = rw (
+returns-in-Some c = rw (
   ← c.base_of.ensures,
-  c.in-At.is,
+  c.in-Some.is,
 )
 
-pub returns-in-At-named_of : goal.returns-in-At-named_of
+pub returns-in-Some-named_of : goal.returns-in-Some-named_of
 unfolding kind_of
-returns-in-At-named_of c = rw (
+returns-in-Some-named_of c = rw (
   ← c.base_of.ensures,
-  c.in-Nothing.is,
+  c.in-None.is,
   ← c.named_of.ensures,
-  c.in-At-named_of.is,
+  c.in-Some-named_of.is,
 )
 
-pub returns-in-Nothing-named_of : goal.returns-in-Nothing-named_of
+pub returns-in-None-named_of : goal.returns-in-None-named_of
 unfolding kind_of
-returns-in-Nothing-named_of c = rw (
+returns-in-None-named_of c = rw (
   ← c.base_of.ensures,
-  c.in-Nothing.is,
+  c.in-None.is,
   ← c.named_of.ensures,
-  c.in-Nothing-named_of.is,
+  c.in-None-named_of.is,
 )

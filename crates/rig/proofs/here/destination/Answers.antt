@@ -1,17 +1,17 @@
 use Rattle.definition.specs.Rig.{destination}
 use Rattle.rig.proofs.here.destination.Goals as goal
 
-pub returns-in-To : goal.returns-in-To
+pub returns-in-Some : goal.returns-in-Some
 unfolding destination
-returns-in-To c = rw (
+returns-in-Some c = rw (
   ← c.fader.ensures,
-  c.in-To.is,
+  c.in-Some.is,
 )
 
-pub returns-in-Nothing : goal.returns-in-Nothing
+pub returns-in-None : goal.returns-in-None
 unfolding destination
-returns-in-Nothing c = rw (
+returns-in-None c = rw (
   ← c.fader.ensures,
-  c.in-Nothing.is,
+  c.in-None.is,
   ← c.own_fader.ensures,
 )

@@ -13,4 +13,4 @@ pub returns : goal.returns
 returns c = let s = c.args.drivers in
     let l : length s.list ≡ 16 = search laws.long in
     let h : s.count < length s.list = omega arith in
-    record { result_value = its_driver _ _ s.list s.count c.in-To.is h; count_bound = omega arith }
+    record { result_value = its_driver _ _ s.list s.count c.in-Some.is h; count_bound = omega arith }

@@ -1,10 +1,10 @@
 use Rattle.rig.proofs.levels.as_the_fader_sees.Goals as goal
 
-pub returns-in-At : goal.returns-in-At
-returns-in-At c = rw (
-  c.in-At.is,
+pub returns-in-Some : goal.returns-in-Some
+returns-in-Some c = rw (
+  c.in-Some.is,
   ← c.normalised.ensures,
 )
 
-pub returns-in-Unknown : goal.returns-in-Unknown
-returns-in-Unknown c = rw c.in-Unknown.is
+pub returns-in-None : goal.returns-in-None
+returns-in-None c = rw c.in-None.is

@@ -2,16 +2,16 @@ use Rattle.drivers.specs.Talk.{next}
 use Rattle.definition.specs.Levels.{read_mute}
 use Rattle.rig.proofs.levels.read_mute.Goals as goal
 
-pub returns-in-At : goal.returns-in-At
+pub returns-in-Some : goal.returns-in-Some
 unfolding read_mute next
-returns-in-At c = rw (
+returns-in-Some c = rw (
   ← c.read-g.ensures,
-  c.in-At.is,
+  c.in-Some.is,
 )
 
-pub returns-in-Unknown : goal.returns-in-Unknown
+pub returns-in-None : goal.returns-in-None
 unfolding read_mute next
-returns-in-Unknown c = rw (
+returns-in-None c = rw (
   ← c.read-g.ensures,
-  c.in-Unknown.is,
+  c.in-None.is,
 )

@@ -33,5 +33,5 @@ returns c = let list = c.scenes-all in
     let test = asked in
     let name = test.device-name in
     let start = test in
-    let told = says_low _ start.args.here _ start.requires.offers _ name.result name.ensures.value test.if-name.false _ _ asked.current_scene-g.ensures _ _ _ _ _ arm.in-At.is
+    let told = says_low _ start.args.here _ start.requires.offers _ name.result name.ensures.value test.if-name.false _ _ asked.current_scene-g.ensures _ _ _ _ _ arm.in-Some.is
     list.ensures.messages_after c.place_of-p.ensures in record { messages_after = told.0; place_value = told.1 }

@@ -9,7 +9,7 @@ pub returns : goal.returns
 returns c = let start = c in
     let device = c.scene_on_device-g in
     let none = c in record {
-      messages_after = found _ _ _ _ _ none.scene_at.ensures _ _ _ none.in-Nothing.is device.ensures.messages_after
+      messages_after = found _ _ _ _ _ none.scene_at.ensures _ _ _ none.in-None.is device.ensures.messages_after
           c.with_scene-l.ensures;
       flash_value = placed-flash start.args.lamps c.with_scene-l.result start.args.here.bank device.result.place c.with_scene-l.ensures;
     }

@@ -1,8 +1,8 @@
+use Rattle.std.proofs.Common.{Some}
 use lib.ListN.{get_or, length, take, length-set}
 use mathlib.Core.Bool.{false, ◌&&◌}
 use mathlib.Core.Path.{◌≡◌, sym, ap, ◌∙◌}
 use mathlib.Core.List.{List, [], map}
-use mathlib.Core.Option.{some}
 use native.Mathlib.Omega.{arith}
 use lib.Dec.{ltb}
 use borrow.Author.Tests.{ltb-true}
@@ -52,4 +52,4 @@ unfolding seen_strips strips_of
 returns c = let p = c.loop-j in
     let s = c.args.faders in
     let q : p.j ≡ s.count = omega arith in
-    record { result_value = rw (p.invariant.2, ← q) (ap some p.invariant.4); count_bound = p.invariant.1 }
+    record { result_value = rw (p.invariant.2, ← q) (ap Some p.invariant.4); count_bound = p.invariant.1 }

@@ -16,4 +16,4 @@ unfolding added_by_mute
 returns c = let t = c.adding-t.result in
     let l : length t.list ≡ 16 = search laws.long in
     let n = c.none_added in
-    rw (← c.destination.ensures, c.in-To.is, ← n.ensures.result_value, ← c.adding-t.ensures.result_value) (sym (length-take-le t.count t.list (omega (arith, n.ensures.count_value, c.adding-t.ensures.count_bound_2))))
+    rw (← c.destination.ensures, c.in-Some.is, ← n.ensures.result_value, ← c.adding-t.ensures.result_value) (sym (length-take-le t.count t.list (omega (arith, n.ensures.count_value, c.adding-t.ensures.count_bound_2))))

@@ -11,10 +11,10 @@ returns-in_default c = rw (← c.destination.ensures, c.in_default.is)
 
 pub returns-then-lamps-fader : goal.returns-then-lamps-fader
 unfolding added_by_solo
-returns-then-lamps-fader c = rw (← c.destination.ensures, c.in-To.is, eq-eqb _ _ c.if-lamps-fader.true)
+returns-then-lamps-fader c = rw (← c.destination.ensures, c.in-Some.is, eq-eqb _ _ c.if-lamps-fader.true)
 
 pub returns : goal.returns
 unfolding added_by_solo
 returns c = let b = c in
     let e = same_adds _ _ b.args.fader (take b.args.hushed b.args.targets.now) 16 c.peers_of-peers.ensures in
-    rw (← b.destination.ensures, c.in-To.is, ne_eqb _ _ c.if-lamps-fader.false, ← e) c.added_by_peers.ensures
+    rw (← b.destination.ensures, c.in-Some.is, ne_eqb _ _ c.if-lamps-fader.false, ← e) c.added_by_peers.ensures

@@ -1,5 +1,5 @@
 use Rattle.solos.proofs.peers.peer_of.Goals as goal
 
 -- src/peers.rt:22:1
-pub returns-in-To : goal.returns-in-To
-returns-in-To c = rw c.in-To.is
+pub returns-in-Some : goal.returns-in-Some
+returns-in-Some c = rw c.in-Some.is

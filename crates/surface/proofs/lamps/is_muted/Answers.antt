@@ -1,10 +1,10 @@
 use Rattle.surface.proofs.lamps.is_muted.Goals as goal
 
-pub returns-in-To : goal.returns-in-To
-returns-in-To c = rw (
-  c.in-To.is,
+pub returns-in-Some : goal.returns-in-Some
+returns-in-Some c = rw (
+  c.in-Some.is,
   ← c.is_muted_at.ensures,
 )
 
-pub returns-in-Nothing : goal.returns-in-Nothing
-returns-in-Nothing c = rw c.in-Nothing.is
+pub returns-in-None : goal.returns-in-None
+returns-in-None c = rw c.in-None.is

@@ -7,17 +7,17 @@ returns-then-not-positions c = rw (
   not-true c.positions.result c.if-not-positions.true-raw,
 )
 
-pub returns-in-To : goal.returns-in-To
-returns-in-To c = rw (
+pub returns-in-Some : goal.returns-in-Some
+returns-in-Some c = rw (
   ← c.positions.ensures,
   not-false c.positions.result c.if-not-positions.false-raw,
-  c.in-To.is,
+  c.in-Some.is,
   ← c.read_and_send.ensures,
 )
 
-pub returns-in-Nothing : goal.returns-in-Nothing
-returns-in-Nothing c = rw (
+pub returns-in-None : goal.returns-in-None
+returns-in-None c = rw (
   ← c.positions.ensures,
   not-false c.positions.result c.if-not-positions.false-raw,
-  c.in-Nothing.is,
+  c.in-None.is,
 )

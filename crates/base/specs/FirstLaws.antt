@@ -64,6 +64,16 @@ module _ (p : ℕ → Bool) where
       early (Some j) b q = q
       early None b q = refl
 
+  -- where p holds of none, nothing is found
+  pub first_each : (n : ℕ) → ((k : ℕ) → k < n → p k ≡ false) → first n p ≡ None
+  unfolding first
+  first_each zero h = refl
+  first_each (suc n) h = rw (first_each n (λ k l. h k (omega arith)), h n (omega arith))
+
+  -- the first of which p holds is found
+  pub first_is : (n i : ℕ) → i < n → ((k : ℕ) → k < i → p k ≡ false) → p i ≡ true → Some i ≡ first n p
+  first_is n i l h q = first-hit n i (first_each i h) q l
+
   -- no more come before the first than there are
   pub until-le : (n : ℕ) → until n p ≤ n
   unfolding until
@@ -99,3 +109,9 @@ module _ (p : ℕ → Bool) where
   -- as a loop knows it
   pub until_on : (n i : ℕ) → i < n → first i p ≡ None → p i ≡ false → i < until n p
   until_on n i l h q = until-behind n i l (λ k m. ⊎_elim (λ e. rw e q) (first_misses i k h) (eq-or-lt_of_le m))
+
+-- questions that agree below n have one answer
+pub first_cong : (p q : ℕ → Bool) (n : ℕ) → ((k : ℕ) → k < n → p k ≡ q k) → first n p ≡ first n q
+unfolding first
+first_cong p q zero h = refl
+first_cong p q (suc n) h = rw (first_cong p q n (λ k l. h k (omega arith)), h n (omega arith))

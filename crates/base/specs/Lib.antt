@@ -12,3 +12,4 @@ pub mod Words
 pub mod WordsLaws
 pub mod Tail
 pub mod Same
+pub mod StdLaws

@@ -4,49 +4,48 @@
 ghost use Rattle.std.specs.Prelude.{◌≡◌, ◌+◌, ◌≤◌, length};
 ghost use Rattle.base.specs.Words.{le16, le32, le64, put16, put32, put64};
 
+// No trait over the three widths: its impls would hold these six bodies again, beside a length and two definitions for each.
 pub fn read_u16(s: &[u8], at: usize) -> u16
     requires { at + 2 ≤ length s.now }
     ensures { result ≡ le16 s.now at }
 {
-    let low = s[at] as u16;
-    let high = s[at + 1] as u16;
-    low + 256 * high
+    u16::from_le_bytes([s[at], s[at + 1]])
 }
 
 pub fn read_u32(s: &[u8], at: usize) -> u32
     requires { at + 4 ≤ length s.now }
     ensures { result ≡ le32 s.now at }
 {
-    read_u16(s, at) as u32 + 65536 * (read_u16(s, at + 2) as u32)
+    u32::from_le_bytes([s[at], s[at + 1], s[at + 2], s[at + 3]])
 }
 
+#[tactic(auto, unfolding(crate::specs::Words::le64))]
 pub fn read_u64(s: &[u8], at: usize) -> u64
     requires { at + 8 ≤ length s.now }
     ensures { result ≡ le64 s.now at }
 {
-    read_u32(s, at) as u64 + 4294967296 * (read_u32(s, at + 4) as u64)
+    let mut bytes = [0; 8];
+    bytes.copy_from_slice(&s[at..at + 8]);
+    u64::from_le_bytes(bytes)
 }
 
 pub fn put_u16(s: &mut [u8], at: usize, n: u16)
     requires { at + 2 ≤ length s.old }
     ensures { s.new ≡ put16 s.old at n }
 {
-    s[at] = (n % 256) as u8;
-    s[at + 1] = (n / 256) as u8;
+    s[at..at + 2].copy_from_slice(&n.to_le_bytes());
 }
 
 pub fn put_u32(s: &mut [u8], at: usize, n: u32)
     requires { at + 4 ≤ length s.old }
     ensures { s.new ≡ put32 s.old at n }
 {
-    put_u16(s, at, (n % 65536) as u16);
-    put_u16(s, at + 2, (n / 65536) as u16);
+    s[at..at + 4].copy_from_slice(&n.to_le_bytes());
 }
 
 pub fn put_u64(s: &mut [u8], at: usize, n: u64)
     requires { at + 8 ≤ length s.old }
     ensures { s.new ≡ put64 s.old at n }
 {
-    put_u32(s, at, (n % 4294967296) as u32);
-    put_u32(s, at + 4, (n / 4294967296) as u32);
+    s[at..at + 8].copy_from_slice(&n.to_le_bytes());
 }

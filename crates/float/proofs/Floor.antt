@@ -1,11 +1,21 @@
 -- `floor` and `max(0.0)` before Rust's `as u32` change nothing: the cast cuts to a whole number and takes what is below zero, and a NaN, to 0. Assumes nothing.
-use Rattle.std.proofs.Common.{◌≡◌, ℕ, zero, suc, ◌*◌, ◌/◌, ◌%◌, ◌^◌, ◌<◌, ◌≤◌, Bool, true, false, cond, ◌&&◌, T, eqb, ltb, leb, ℤ, pos, negsuc, refl, ◌∙◌, zero-mul, mul-one, div-le_self, div-one, arith, ltb→lt, pow_pos, ltb-false}
+use Rattle.std.proofs.Common.{◌≡◌, ℕ, zero, suc, ◌-◌, ◌*◌, ◌/◌, ◌%◌, ◌^◌, ◌<◌, ◌≤◌, Bool, true, false, cond, min, ap, ◌&&◌, T, eqb, ltb, leb, ℤ, pos, negsuc, refl, ◌∙◌, zero-mul, mul-one, div-le_self, div-one, arith, ltb→lt, pow_pos, ltb-false}
 use native.Mathlib.Nat.{zero-div}
 use lib.Ieee.{Float, nan, inf, fin, up, down, binary64, lt, fits, of_bits, to_unsigned, round}
-use lib.Ieee.Fits.{and_l, and_r, up_pos}
+use lib.Ieee.Fits.{and_l, and_r, up_pos, down_pos}
+use lib.Ieee.Exact.{HasValue}
+use lib.Ieee.Nearest.{div_same}
 use lib.Ieee.Back.{round_whole}
 use Rattle.float.specs.Leaf.{floor_of, at_least0, f0}
-use Rattle.float.proofs.Cut.{cut_val}
+
+-- the cast of a value that is given as a fraction
+cut_val : (x : Float) (s : Bool) (a c : ℕ) → 0 < c → HasValue x s a c → to_unsigned 32 x ≡ cond s 0 (min (a / c) (2 ^ 32 - 1))
+unfolding to_unsigned
+cut_val nan s a c C v = absurd v
+cut_val (inf t) s a c C v = absurd v
+cut_val (fin t m e) s a c C v =
+    ap (λ (b : Bool). cond b 0 (min (m * up e / down e) (2 ^ 32 - 1))) v.0
+    ∙ ap (λ (n : ℕ). cond s 0 (min n (2 ^ 32 - 1))) (div_same (m * up e) (down e) a c (down_pos e) C v.1)
 
 -- ---- max
 

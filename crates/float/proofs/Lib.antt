@@ -1,5 +1,4 @@
 pub mod Bits
-pub mod Cut
 pub mod Floor
 pub mod Held
 pub mod Trip

@@ -1,10 +1,8 @@
 #![tactic(auto)]
 
 // The f64 leaves of the bridge, for every f64: each is an equation with a definition of specs/Leaf.antt, and none asks anything of a value.
-// `round`, `floor`, `abs`, `clamp` and casts to whole numbers are worked out, most of them from the bits.
 ghost use Rattle.std.specs.Prelude.{◌≡◌, ◌+◌, ◌≤◌, length, from_bits, to_bits};
 ghost use Rattle.std.specs.Float.{binary64};
-ghost use Rattle.std.specs.Float.Ieee.{to_unsigned};
 ghost use Rattle.base.specs.Words.{le64};
 ghost use Rattle.float.specs.Leaf.{value_of, position_of, ComesBack, abs_of, clamp_of, normalise, range_of, far_of, crossed_of, nudge, same_range, due_of, flash_over};
 
@@ -19,34 +17,31 @@ pub fn fader_value(raw: u16) -> f64
 
 // The product with 16383 to the nearest whole number, halves up, held in 0 to 16383; a NaN gives 0. The rounding is worked out from the bits:
 // 1022 in the exponent's field is a half up to one, 1036 is 8192 up to 16384. Every raw position, decoded and sent, comes back.
+// A rule of the project: the position is worked out from the bits, and not by `round` and a cast.
 pub fn position(value: f64) -> u16
     ensures value { result ≡ position_of value }
     ensures comes_back { ComesBack value result }
 {
     let x = value * 16383.0;
-    if x != x {
+    if x.is_nan() {
         return 0;
     }
-    let bits: u64 = f64::to_bits(x);
+    let bits = x.to_bits();
     if 0x8000_0000_0000_0000 <= bits {
         return 0;
     }
-    let exponent: u64 = bits / 0x10_0000_0000_0000;
+    let exponent = bits / 0x10_0000_0000_0000;
     if exponent < 1022 {
         return 0;
     }
     if 1036 < exponent {
         return 16383;
     }
-    let digits: u64 = bits % 0x10_0000_0000_0000 + 0x10_0000_0000_0000;
+    let digits = bits % 0x10_0000_0000_0000 + 0x10_0000_0000_0000;
     // x is digits / 2 ^ (1075 - exponent), so this is twice x, cut to a whole number
-    let twice: u64 = digits >> (1074 - exponent);
-    let nearest: u64 = (twice + 1) / 2;
-    if nearest < 16383 {
-        nearest as u16
-    } else {
-        16383
-    }
+    let twice = digits >> (1074 - exponent);
+    let nearest = (twice + 1) / 2;
+    nearest.min(16383) as u16
 }
 
 // ── levels ──
@@ -54,27 +49,15 @@ pub fn position(value: f64) -> u16
 pub fn abs(x: f64) -> f64
     ensures { result ≡ abs_of x }
 {
-    if x < 0.0 {
-        return -x;
-    }
-    // a zero of either sign
-    if x == 0.0 {
-        return 0.0;
-    }
-    x
+    x.abs()
 }
 
 // Held in 0 to 1.
+#[tactic(auto, unfolding(crate::specs::Leaf::clamp_of))]
 pub fn clamp(x: f64) -> f64
     ensures { result ≡ clamp_of x }
 {
-    if x < 0.0 {
-        return 0.0;
-    }
-    if x > 1.0 {
-        return 1.0;
-    }
-    x
+    x.clamp(0.0, 1.0)
 }
 
 // A device's level as the fader sees it: the destination's range mapped back onto the full travel.
@@ -120,34 +103,13 @@ pub fn same_range(low: f64, high: f64, low2: f64, high2: f64) -> bool
 
 // ── the flash ──
 
-// Rust's `x as u32`: the whole part, saturated; a NaN and what is below zero give 0.
-fn to_u32(x: f64) -> u32
-    ensures { result ≡ to_unsigned 32 x }
-{
-    if x != x {
-        return 0;
-    }
-    let bits: u64 = f64::to_bits(x);
-    if 0x8000_0000_0000_0000 <= bits {
-        return 0;
-    }
-    let exponent: u64 = bits / 0x10_0000_0000_0000;
-    if exponent < 1023 {
-        return 0;
-    }
-    if 1054 < exponent {
-        return 0xffff_ffff;
-    }
-    let digits: u64 = bits % 0x10_0000_0000_0000 + 0x10_0000_0000_0000;
-    (digits >> (1075 - exponent)) as u32
-}
-
 // How many phases of a flash are due, 0 to 6. The cast cuts to a whole number and takes what is below zero to 0, so that floor and max need no work of their own.
 pub fn due(now: f64, start: f64) -> u32
     ensures { result ≡ due_of now start }
 {
-    let n = std::num::wrapping_add_u32(to_u32((now - start) / 0.12), 1);
-    if n < 6 { n } else { 6 }
+    std::num::saturating_f64_to_u32((now - start) / 0.12)
+        .wrapping_add(1)
+        .min(6)
 }
 
 pub fn flash_over(now: f64, start: f64) -> bool
@@ -162,19 +124,14 @@ pub fn flash_over(now: f64, start: f64) -> bool
 pub fn of_bits(n: u64) -> f64
     ensures { result ≡ from_bits binary64 n }
 {
-    let is_nan = 0x7ff0_0000_0000_0000 < n % 0x8000_0000_0000_0000;
-    if is_nan { 0.0 / 0.0 } else { f64::from_bits(n) }
+    std::num::f64_from_bits_with_nan(n)
 }
 
 // The bit pattern of an f64; a NaN is written as 0x7FF8000000000000.
 pub fn to_bits(x: f64) -> u64
     ensures { result ≡ to_bits binary64 x }
 {
-    if x != x {
-        0x7ff8_0000_0000_0000
-    } else {
-        f64::to_bits(x)
-    }
+    std::num::f64_to_bits_with_nan(x)
 }
 
 // The f64 in the eight bytes from `at` on.

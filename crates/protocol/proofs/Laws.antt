@@ -1,27 +1,25 @@
--- What is known of a note that was looked up, and a message as three stores. Assumes nothing.
+-- What is known of a note that was looked up, of a kind's number, and of a message that is written. Assumes nothing.
 use Rattle.std.proofs.Common.{Some}
-use Prim.Native.Nat.{ℕ, zero, suc, ◌≤◌, ◌<◌}
+use Prim.Native.Nat.{ℕ, ◌+◌, ◌-◌, ◌≤◌, ◌<◌}
 use mathlib.Core.Path.{◌≡◌, refl}
-use mathlib.Core.Bool.{Bool, true, ◌&&◌}
-use mathlib.Core.List.{List, [], ◌∷◌}
+use mathlib.Core.Bool.{Bool, true, false, ◌&&◌}
+use mathlib.Core.List.{List, [], ◌∷◌, ◌++◌}
 use native.Mathlib.Omega.{arith}
-use lib.Dec.{leb}
-use lib.ListN.{length, get_or, set}
-use borrow.Author.Tests.{leb-true}
-use Rattle.base.specs.RangeLaws.{and_left, and_right}
+use lib.Dec.{leb, ltb}
+use lib.ListN.{get_or, drop}
+use borrow.Author.Tests.{leb-true, ltb-true, lt-ltb}
+use Rattle.std.proofs.Common.{eqb, eqb-true}
+use Rattle.base.specs.Range.{all}
+use Rattle.base.specs.RangeLaws.{all-at, and_left, bool_iff}
 use Rattle.base.specs.FirstLaws.{first-at}
 use Rattle.base.specs.Tail.{at_front}
-use Rattle.protocol.specs.Protocol.{channel_bases, is_of_base, is_named, base_of, named_of, bytes_of}
+use Rattle.protocol.specs.Protocol.{channel_bases, is_of_base, is_named, base_of, named_of, number_of, bytes_of}
+use Rattle.protocol.specs.declared.Kind.{Kind}
+use Rattle.protocol.specs.declared.Kind.TheVariants.{Rec, Solo, Mute, Select, BankLeft, BankRight, ArrowLeft, ArrowRight, ArrowUp, ArrowDown, Rewind, Forward, Stop, Play, Record, Unknown}
+use Rattle.protocol.specs.contracts.Kind.{the_type}
+use denote.Enum.Declared.{tag_of}
 use Rattle.protocol.specs.declared.Out.{Out}
 use Rattle.protocol.specs.declared.Out.TheVariants.{Led, Position}
-
--- the eight notes of a base are bytes
-pub base_low : (k : ℕ) → k < 4 → get_or channel_bases k 0 ≤ 24
-base_low zero h = omega arith
-base_low (suc zero) h = omega arith
-base_low (suc (suc zero)) h = omega arith
-base_low (suc (suc (suc zero))) h = omega arith
-base_low (suc (suc (suc (suc k)))) h = absurd (omega arith)
 
 -- a base that has the note is one of the four, and starts at the note or below
 pub base_at : (note k : ℕ) → base_of note ≡ Some k → (k < 4) × (get_or channel_bases k 0 ≤ note)
@@ -30,25 +28,50 @@ base_at note k e =
     let w = first-at (is_of_base note) 4 k e in
     (w.0, leb-true _ _ (and_left (leb (get_or channel_bases k 0) note) _ w.1))
 
-pub named-at : (note k : ℕ) → named_of note ≡ Some k → k < 11
+pub named_at : (note k : ℕ) → named_of note ≡ Some k → k < 11
 unfolding named_of
-named-at note k e = (first-at (is_named note) 11 k e).0
+named_at note k e = (first-at (is_named note) 11 k e).0
 
--- a controller that is an encoder's
-pub turns : (p q r : Bool) (a : ℕ) → (p && (q && (leb 16 a && r))) ≡ true → 16 ≤ a
-turns p q r a e = leb-true _ _ (and_left (leb 16 a) r (and_right q _ (and_right p _ e)))
+-- the eight notes from a base on, as a difference
+pub below_eight : (n b : ℕ) → (leb b n && ltb (n - b) 8) ≡ (leb b n && ltb n (b + 8))
+below_eight n b = go (leb b n) refl
+  where
+    go : (x : Bool) → leb b n ≡ x → (x && ltb (n - b) 8) ≡ (x && ltb n (b + 8))
+    go true e =
+        bool_iff _ _
+        (λ h. lt-ltb n (b + 8) (omega (arith, ltb-true (n - b) 8 h, leb-true b n e)))
+        (λ h. lt-ltb (n - b) 8 (omega (arith, ltb-true n (b + 8) h, leb-true b n e)))
+    go false e = refl
 
--- three stores at the front
-three : (l : List ℕ) (a b c : ℕ) → 3 ≤ length l → set (set (set l 0 a) 1 b) 2 c ≡ at_front (a ∷ b ∷ c ∷ []) l
-unfolding at_front
-three [] a b c h = absurd (omega arith)
-three (x ∷ []) a b c h = absurd (omega arith)
-three (x ∷ y ∷ []) a b c h = absurd (omega arith)
-three (x ∷ y ∷ z ∷ l) a b c h = refl
+-- the kinds in the order of their numbers
+abbrev pub kinds : List Kind
+kinds = Rec ∷ Solo ∷ Mute ∷ Select ∷ BankLeft ∷ BankRight ∷ ArrowLeft ∷ ArrowRight ∷ ArrowUp ∷ ArrowDown ∷ Rewind ∷ Forward ∷ Stop ∷ Play ∷ Record ∷ []
 
--- the three bytes of a message, stored one by one
-pub at_front_lem : (out : Out) (l r : List ℕ) → 3 ≤ length l → r ≡ bytes_of out →
-    set (set (set l 0 (get_or r 0 0)) 1 (get_or r 1 0)) 2 (get_or r 2 0) ≡ at_front (bytes_of out) l
-unfolding bytes_of
-at_front_lem (Led note on) l r h e = rw e (three l _ _ _ h)
-at_front_lem (Position channel raw) l r h e = rw e (three l _ _ _ h)
+pub numbered : (k : ℕ) → k < 15 → number_of (get_or kinds k Rec) ≡ k
+unfolding number_of all
+numbered k h = eqb-true _ k (all-at (λ i. eqb (number_of (get_or kinds i Rec)) i) 15 k refl h)
+
+pub tag_number : (k : Kind) → tag_of the_type k ≡ number_of k
+unfolding number_of
+tag_number Rec = refl
+tag_number Solo = refl
+tag_number Mute = refl
+tag_number Select = refl
+tag_number BankLeft = refl
+tag_number BankRight = refl
+tag_number ArrowLeft = refl
+tag_number ArrowRight = refl
+tag_number ArrowUp = refl
+tag_number ArrowDown = refl
+tag_number Rewind = refl
+tag_number Forward = refl
+tag_number Stop = refl
+tag_number Play = refl
+tag_number Record = refl
+tag_number Unknown = refl
+
+-- a message has three bytes, and what stands behind them in the buffer stays
+pub put_front : (out : Out) (l r : List ℕ) → r ≡ bytes_of out → r ++ drop 3 l ≡ at_front (bytes_of out) l
+unfolding bytes_of at_front
+put_front (Led note on) l r e = rw e
+put_front (Position channel raw) l r e = rw e

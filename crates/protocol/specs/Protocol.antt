@@ -6,6 +6,8 @@ use Rattle.base.specs.First.{first}
 use Rattle.float.specs.Leaf.{value_of, position_of}
 use Rattle.protocol.specs.declared.Event.{Event}
 use Rattle.protocol.specs.declared.Event.TheVariants as event
+use Rattle.protocol.specs.declared.Kind.{Kind}
+use Rattle.protocol.specs.declared.Kind.TheVariants.{Rec, Solo, Mute, Select, BankLeft, BankRight, ArrowLeft, ArrowRight, ArrowUp, ArrowDown, Rewind, Forward, Stop, Play, Record, Unknown}
 use Rattle.protocol.specs.declared.Out.{Out}
 use Rattle.protocol.specs.declared.Out.TheVariants.{Led, Position}
 
@@ -38,6 +40,25 @@ abbrev pub kind_by : Option ℕ → Option ℕ → ℕ
 kind_by (Some k) other = k
 kind_by None (Some k) = k + 4
 kind_by None None = 15
+
+-- the number that a profile has for a kind
+unfoldable pub number_of : Kind → ℕ
+number_of Rec = 0
+number_of Solo = 1
+number_of Mute = 2
+number_of Select = 3
+number_of BankLeft = 4
+number_of BankRight = 5
+number_of ArrowLeft = 6
+number_of ArrowRight = 7
+number_of ArrowUp = 8
+number_of ArrowDown = 9
+number_of Rewind = 10
+number_of Forward = 11
+number_of Stop = 12
+number_of Play = 13
+number_of Record = 14
+number_of Unknown = 15
 
 -- `Button::kind`: 0 to 3 a base, 4 to 14 a named button, 15 unknown
 unfoldable pub kind_of : ℕ → ℕ

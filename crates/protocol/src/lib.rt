@@ -4,7 +4,7 @@
 // lit by sending its button's note back. The port of protocol.rs.
 ghost use Rattle.std.specs.Prelude.{◌≡◌, ◌<◌, ◌≤◌, length, get_or};
 ghost use Rattle.base.specs.Tail.{at_front};
-ghost use Rattle.protocol.specs.Protocol.{channel_bases, named, is_of_base, base_of, named_of, kind_of, channel_of, note_of, transport_note, delta_of, decode_of, velocity_of, bytes_of, heard_of, sent_to};
+ghost use Rattle.protocol.specs.Protocol.{channel_bases, named, is_of_base, base_of, named_of, number_of, kind_of, channel_of, note_of, transport_note, delta_of, decode_of, velocity_of, bytes_of, heard_of, sent_to};
 
 // The first note of each channel's button: note = base + channel.
 pub const REC: u8 = 0x00;
@@ -44,7 +44,7 @@ pub const ON: u8 = 127;
 
 pub const OFF: u8 = 0;
 
-// The kinds of button: 0 to 3 are the bases, 4 to 14 the named ones, in these orders; 15 is unknown.
+// A rule of the project: the notes stand in two constant arrays in the order of the kinds, looked up by note and by kind.
 const CHANNEL_BASES: [u8; 4] = [REC, SOLO, MUTE, SELECT];
 
 const NAMED: [u8; 11] = [
@@ -61,7 +61,54 @@ const NAMED: [u8; 11] = [
     RECORD,
 ];
 
-pub const UNKNOWN: u8 = 15;
+// The kind of a button, and by its place the number that a profile has for it: 0 to 3 are the bases, 4 to 14 the named ones.
+#[derive(Clone, Copy, PartialEq, Eq)]
+pub enum Kind {
+    Rec = 0,
+    Solo,
+    Mute,
+    Select,
+    BankLeft,
+    BankRight,
+    ArrowLeft,
+    ArrowRight,
+    ArrowUp,
+    ArrowDown,
+    Rewind,
+    Forward,
+    Stop,
+    Play,
+    Record,
+    Unknown,
+}
+
+// The kinds that have a note, in the order of their numbers.
+const KINDS: [Kind; 15] = [
+    Kind::Rec,
+    Kind::Solo,
+    Kind::Mute,
+    Kind::Select,
+    Kind::BankLeft,
+    Kind::BankRight,
+    Kind::ArrowLeft,
+    Kind::ArrowRight,
+    Kind::ArrowUp,
+    Kind::ArrowDown,
+    Kind::Rewind,
+    Kind::Forward,
+    Kind::Stop,
+    Kind::Play,
+    Kind::Record,
+];
+
+impl Kind {
+    #[tactic(auto, using(crate::proofs::Laws::tag_number))]
+    pub fn number(self) -> u8
+        ensures { result ≡ number_of self }
+    {
+        self as u8
+    }
+}
 
 // What the surface did. Channels count from 0; a fader's value is 0 to 1, an encoder's detents are negative to the left.
 #[derive(Clone, Copy)]
@@ -81,105 +128,66 @@ pub struct Button {
 
 // ── buttons ──
 
-fn channel_base(k: usize) -> u8
-    requires { k < 4 }
-    ensures { result ≡ get_or channel_bases k 0 }
-{
-    CHANNEL_BASES[k]
-}
-
-fn named_note(k: usize) -> u8
-    requires { k < 11 }
-    ensures { result ≡ get_or named k 0 }
-{
-    NAMED[k]
-}
-
-fn is_of_base(note: u8, k: usize) -> bool
-    requires { k < 4 }
-    ensures { result ≡ is_of_base note k }
-{
-    let base = channel_base(k);
-    (base <= note) & (note < base + 8)
-}
-
 // The base that has the note among its eight.
 fn base_of(note: u8) -> Option<usize>
     ensures { result ≡ base_of note }
 {
-    let mut k: usize = 0;
-    while k < 4 {
-        if is_of_base(note, k) {
-            return Some(k);
-        }
-        k += 1;
-    }
-    None
+    CHANNEL_BASES
+        .iter()
+        .position(|base| *base <= note && note - *base < 8)
 }
 
 // The named button that has the note.
 fn named_of(note: u8) -> Option<usize>
     ensures { result ≡ named_of note }
 {
-    let mut k: usize = 0;
-    while k < 11 {
-        if named_note(k) == note {
-            return Some(k);
-        }
-        k += 1;
-    }
-    None
+    NAMED.iter().position(|named| *named == note)
 }
 
 impl Button {
     // Which channel a channel's button belongs to.
+    #[tactic(auto, using(crate::proofs::Laws::base_at), unfolding(crate::specs::Protocol::channel_of))]
     pub fn channel(self) -> Option<u8>
         ensures { result ≡ channel_of self.note }
     {
-        let note = self.note;
-        match base_of(note) {
-            Some(k) => Some(note - channel_base(k)),
-            None => None,
-        }
+        let k = base_of(self.note)?;
+        Some(self.note - CHANNEL_BASES[k])
     }
 
-    pub fn kind(self) -> u8
-        ensures { result ≡ kind_of self.note }
+    #[tactic(auto, using(crate::proofs::Laws::base_at, crate::proofs::Laws::named_at, crate::proofs::Laws::numbered), unfolding(crate::specs::Protocol::kind_of, crate::specs::Protocol::number_of))]
+    pub fn kind(self) -> Kind
+        ensures { number_of result ≡ kind_of self.note }
     {
-        let note = self.note;
-        match base_of(note) {
-            Some(k) => k as u8,
-            None => match named_of(note) {
-                Some(k) => (k + 4) as u8,
-                None => UNKNOWN,
-            },
+        if let Some(k) = base_of(self.note) {
+            return KINDS[k];
+        }
+        match named_of(self.note) {
+            Some(k) => KINDS[k + 4],
+            None => Kind::Unknown,
         }
     }
 }
 
 // The note of a kind that is one single button.
+#[tactic(auto, unfolding(crate::specs::Protocol::note_of))]
 pub fn note_of(kind: u8) -> Option<u8>
     ensures { result ≡ note_of kind }
 {
-    if kind < 4 {
-        return None;
+    match kind {
+        4..=14 => Some(NAMED[(kind - 4) as usize]),
+        _ => None,
     }
-    if kind < UNKNOWN {
-        let k = (kind - 4) as usize;
-        return Some(named_note(k));
-    }
-    None
 }
 
 // The note that a transport button of the kind lights.
+#[tactic(auto, unfolding(crate::specs::Protocol::transport_note))]
 pub fn transport_note(kind: u8) -> Option<u8>
     ensures { result ≡ transport_note kind }
 {
-    if kind < 4 {
-        let k = kind as usize;
-        return Some(channel_base(k));
+    match kind {
+        0..=3 => Some(CHANNEL_BASES[kind as usize]),
+        _ => note_of(kind),
     }
-    note_of(kind)
 }
 
 // ── messages in ──
@@ -188,60 +196,38 @@ pub fn transport_note(kind: u8) -> Option<u8>
 fn turned(v: u8) -> i32
     ensures { result ≡ delta_of v }
 {
-    if v < 0x40 {
-        v as i32
-    } else {
-        -((v - 0x40) as i32)
-    }
-}
-
-// The byte of a message, 0 where it has none.
-fn byte_of(msg: &[u8], k: usize) -> u8
-    ensures { result ≡ get_or msg.now k 0 }
-{
-    if k < msg.len() { msg[k] } else { 0 }
+    if v < 0x40 { v as i32 } else { 0x40 - v as i32 }
 }
 
 // Raw MIDI bytes to what the surface did.
+#[tactic(auto, unfolding(crate::specs::Protocol::decode_of))]
 pub fn decode(msg: &[u8]) -> Event
     ensures { result ≡ decode_of msg.now }
 {
-    let n = msg.len();
-    let status = byte_of(msg, 0);
-    let a = byte_of(msg, 1);
-    let b = byte_of(msg, 2);
-    let family = status / 16;
-    let channel = status % 16;
-    let fader = (family == 0xE) & (3 <= n);
-    if fader {
-        let raw = (b % 128) as u16 * 128 + (a % 128) as u16;
-        return Event::Fader {
-            channel: channel,
-            value: float::fader_value(raw),
-        };
-    }
-    let encoder = (family == 0xB) & ((3 <= n) & ((VPOT <= a) & (a < VPOT + 8)));
-    if encoder {
-        return Event::Encoder {
-            channel: a - VPOT,
-            delta: turned(b),
-        };
-    }
-    let pressed = (family == 0x9) & (3 <= n);
-    if pressed {
-        return Event::Button(Button {
-            note: a,
-            pressed: b > 0,
-        });
-    }
-    let released = (family == 0x8) & (2 <= n);
-    if released {
-        return Event::Button(Button {
-            note: a,
+    match *msg {
+        [status, lsb, msb, ..] if status / 16 == 0xE => {
+            let raw = (msb % 128) as u16 * 128 + (lsb % 128) as u16;
+            Event::Fader {
+                channel: status % 16,
+                value: float::fader_value(raw),
+            }
+        }
+        [status, control, v, ..] if status / 16 == 0xB && VPOT <= control && control < VPOT + 8 => {
+            Event::Encoder {
+                channel: control - VPOT,
+                delta: turned(v),
+            }
+        }
+        [status, note, velocity, ..] if status / 16 == 0x9 => Event::Button(Button {
+            note,
+            pressed: velocity > 0,
+        }),
+        [status, note, ..] if status / 16 == 0x8 => Event::Button(Button {
+            note,
             pressed: false,
-        });
+        }),
+        _ => Event::Other,
     }
-    Event::Other
 }
 
 // ── messages out ──
@@ -264,6 +250,7 @@ fn velocity(on: bool) -> u8
 
 impl Out {
     // What is written reads back.
+    #[tactic(auto, unfolding(crate::specs::Protocol::bytes_of))]
     pub fn bytes(self) -> [u8; 3]
         ensures value { result ≡ bytes_of self }
         ensures result_value { decode_of result ≡ heard_of self }
@@ -284,29 +271,28 @@ impl Out {
 pub fn led(note: u8, on: bool) -> Out
     ensures { result ≡ Out.Led note on }
 {
-    Out::Led { note: note, on: on }
+    Out::Led { note, on }
 }
 
 pub fn fader_position(channel: u8, value: f64) -> Out
     ensures { result ≡ sent_to channel value }
 {
     Out::Position {
-        channel: channel,
+        channel,
         raw: float::position(value),
     }
 }
 
 // Writes the three bytes of a message at the start of the part that is lent.
+#[tactic(auto, using(crate::proofs::Laws::put_front))]
 fn write_out(part: &mut [u8], out: Out)
     requires { 3 ≤ length part.old }
     ensures { part.new ≡ at_front (bytes_of out) part.old }
 {
-    let b = out.bytes();
-    part[0] = b[0];
-    part[1] = b[1];
-    part[2] = b[2];
+    part[..3].copy_from_slice(&out.bytes());
 }
 
+// Two writers, of a lamp and of a position: a rule of the project lends the tail of the message buffer to one or the other.
 // A lamp, at the start of the part of the message buffer that is lent.
 pub fn write_led(part: &mut [u8], note: u8, on: bool)
     requires { 3 ≤ length part.old }

@@ -6,28 +6,21 @@ use protocol::{Button, Event};
 
 const STDOUT_FILENO: i32 = 1;
 
+// Where the reader stands: at a line's start, in its message, behind that, or in a line that is a remark.
+#[derive(Clone, Copy, PartialEq, Eq)]
+enum Place {
+    Start,
+    Message,
+    Behind,
+    Remark,
+}
+
 // What was read of a line: the digits of its message, and where the reader stands.
-const START: u8 = 0;
-
-const MESSAGE: u8 = 1;
-
-const BEHIND: u8 = 2;
-
-const REMARK: u8 = 3;
-
-#[derive(Clone, Copy)]
+#[derive(Drop)]
 struct Line {
     bytes: [u8; 3],
     digits: usize,
-    place: u8,
-}
-
-fn fresh() -> Line {
-    Line {
-        bytes: [0; 3],
-        digits: 0,
-        place: START,
-    }
+    place: Place,
 }
 
 fn say(text: &[u8]) {
@@ -50,45 +43,33 @@ fn say_bytes(b: [u8; 3]) {
     io::print_hex(STDOUT_FILENO, b[2] as u64, 2);
 }
 
-// How many detents. A whole number up to 16383, taken for a raw position, comes back from its value as it went in.
-fn detents(delta: i32) -> u16 {
-    float::position(float::abs(delta as f64) / 16383.0)
-}
-
 fn say_delta(delta: i32) {
     if delta < 0 {
         say(b" left ");
     } else {
         say(b" right ");
     }
-    io::print_decimal(STDOUT_FILENO, detents(delta) as u64);
+    io::print_decimal(STDOUT_FILENO, delta.unsigned_abs() as u64);
 }
 
 fn say_channel(button: Button) {
-    match button.channel() {
-        Some(c) => {
-            say(b" channel ");
-            say_number(c);
-        }
-        None => {}
+    if let Some(c) = button.channel() {
+        say(b" channel ");
+        say_number(c);
     }
 }
 
 fn say_note(kind: u8) {
-    match protocol::transport_note(kind) {
-        Some(n) => {
-            say(b" lights ");
-            io::print_hex(STDOUT_FILENO, n as u64, 2);
-        }
-        None => {}
+    if let Some(n) = protocol::transport_note(kind) {
+        say(b" lights ");
+        io::print_hex(STDOUT_FILENO, n as u64, 2);
     }
 }
 
 // A button, and its lamp lit while it is pressed.
 fn say_button(button: Button) {
-    let note = button.note;
-    let pressed = button.pressed;
-    let kind = button.kind();
+    let Button { note, pressed } = button;
+    let kind = button.kind().number();
     say(b"button kind ");
     say_number(kind);
     say_channel(button);
@@ -120,79 +101,65 @@ fn say_event(event: Event) {
     }
 }
 
-fn say_message(bytes: &[u8], n: usize) {
-    if n <= bytes.len() {
-        say_event(protocol::decode(&bytes[..n]));
+// The value of a hexadecimal digit.
+fn digit(b: u8) -> Option<u8> {
+    match b {
+        b'0'..=b'9' => Some(b - b'0'),
+        b'a'..=b'f' => Some(b - b'a' + 10),
+        _ => None,
     }
-    say(b"\n");
 }
 
-// The message of a line, read by the codec.
-fn show(line: Line) {
-    let bytes = line.bytes;
-    let digits = line.digits;
-    say_message(&bytes, digits / 2);
-}
-
-// The value of a hexadecimal digit, 16 for anything else.
-fn digit(b: u8) -> u8 {
-    if (b'0' <= b) & (b <= b'9') {
-        return b % 16;
-    }
-    if (b'a' <= b) & (b <= b'f') {
-        return b % 16 + 9;
-    }
-    16
-}
-
-// One digit more of the message; past its third byte it is passed over.
-fn take(line: Line, d: u8) -> Line {
-    let mut next = line;
-    next.place = MESSAGE;
-    let k = next.digits;
-    if k < 6 {
-        let at = k / 2;
-        let b = next.bytes[at];
-        next.bytes[at] = b % 16 * 16 + d % 16;
-        next.digits = k + 1;
-    }
-    next
-}
-
-fn turn(line: Line, b: u8) -> Line {
-    let place = line.place;
-    if b == b'\n' {
-        if place != REMARK {
-            show(line);
+impl Line {
+    fn fresh() -> Line {
+        Line {
+            bytes: [0; 3],
+            digits: 0,
+            place: Place::Start,
         }
-        return fresh();
     }
-    let mut next = line;
-    if b == b'#' {
-        if place == START {
-            next.place = REMARK;
-        } else {
-            next.place = BEHIND;
+
+    // The message of the line, read by the codec.
+    fn show(&self) {
+        if let Some(message) = self.bytes.get(..self.digits / 2) {
+            say_event(protocol::decode(message));
         }
-        return next;
+        say(b"\n");
     }
-    if BEHIND <= place {
-        return next;
+
+    // One digit more of the message; past its third byte it is passed over.
+    fn take(&mut self, d: u8) {
+        if let Some(b) = self.bytes.get_mut(self.digits / 2) {
+            *b = *b % 16 * 16 + d % 16;
+            self.digits += 1;
+        }
     }
-    let d = digit(b);
-    if d < 16 {
-        return take(next, d);
+
+    fn turn(&mut self, b: u8) {
+        match (b, self.place) {
+            (b'\n', place) => {
+                if place != Place::Remark {
+                    self.show();
+                }
+                *self = Line::fresh();
+            }
+            (b'#', Place::Start) => self.place = Place::Remark,
+            (b'#', _) => self.place = Place::Behind,
+            (_, Place::Behind | Place::Remark) => {}
+            (_, Place::Start | Place::Message) => {
+                self.place = Place::Message;
+                if let Some(d) = digit(b) {
+                    self.take(d);
+                }
+            }
+        }
     }
-    next.place = MESSAGE;
-    next
 }
 
 fn read_lines(text: &[u8]) {
-    let mut line = fresh();
-    let mut i: usize = 0;
-    while i < text.len() {
-        line = turn(line, text[i]);
-        i += 1;
+    let mut line = Line::fresh();
+    for b in text {
+        line.turn(*b);
     }
 }
 

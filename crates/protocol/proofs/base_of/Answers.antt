@@ -1,20 +1,19 @@
-use mathlib.Core.Path.{sym, ◌∙◌}
-use native.Mathlib.Omega.{arith}
-use Rattle.base.specs.FirstLaws.{first-none, first_more, first_done, first-hit}
-use Rattle.protocol.specs.Protocol.{base_of}
-use borrow.Author.Rules.{rules}
+use Rattle.std.proofs.Common.{rules, tests, ◌∙◌, ℕ, ◌-◌, Bool, ◌&&◌, leb, ltb, get_or}
+use Rattle.std.proofs.lemmas.Iterator.{YieldsList-from_slice}
+use Rattle.std.proofs.lemmas.Iterator.Search.{position_from_yields_List}
+use Rattle.base.specs.FirstLaws.{first_cong}
+use Rattle.base.specs.StdLaws.{position-first}
+use Rattle.protocol.specs.Protocol.{base_of, channel_bases, is_of_base}
+use Rattle.protocol.proofs.Laws.{below_eight}
 use Rattle.protocol.proofs.base_of.Goals as goal
 
-pub loop-k-init : goal.loop-k-init
-loop-k-init c = (search rules, first-none _)
-
-pub returns-then-is_of_base : goal.returns-then-is_of_base
-unfolding base_of
-returns-then-is_of_base c = first-hit _ _ _ c.loop-k.invariant.1 (sym c.is_of_base.ensures ∙ c.if-is_of_base.true) (omega arith)
-
-pub loop-k-preserved : goal.loop-k-preserved
-loop-k-preserved c = (search rules, first_more _ _ c.loop-k.invariant.1 (sym c.is_of_base.ensures ∙ c.if-is_of_base.false))
+abbrev starts : ℕ → ℕ → Bool
+starts note base = leb base note && ltb (note - base) 8
 
 pub returns : goal.returns
 unfolding base_of
-returns c = first_done _ _ _ (omega arith) (omega arith) c.loop-k.invariant.1
+returns c =
+    let note = c.args.note in
+    position_from_yields_List (starts note) _ _ _ c.position.ensures.ran (YieldsList-from_slice channel_bases (cc)) (λ x b q k. search (rules, tests))
+    ∙ position-first (starts note) 0 channel_bases
+    ∙ first_cong _ (is_of_base note) 4 (λ k l. below_eight note (get_or channel_bases k 0))

@@ -1,4 +1,4 @@
-pub mod Lowest
+pub mod Chains
 pub mod Ordered
 pub mod Behind
 pub mod Finite

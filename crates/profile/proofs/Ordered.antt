@@ -1,18 +1,21 @@
 -- The two loops of `ordered`: their invariants, and a law for each way through a turn. A record is asked only that it names one of the banks before it: as
 -- kinds never fall, that says the same of the file. Assumes nothing.
 use Prim.Native.Nat.{ℕ, zero, suc, ◌+◌, ◌-◌, ◌≤◌, ◌<◌}
-use mathlib.Core.Path.{◌≡◌, refl, sym, ◌∙◌}
+use mathlib.Core.Path.{◌≡◌, refl, sym, ap, ◌∙◌}
 use mathlib.Core.List.{List}
-use mathlib.Core.Bool.{Bool, true, false, ◌&&◌, ◌||◌, not, cond, and-false, and_assoc, or-true, false≢true}
+use mathlib.Core.Bool.{Bool, true, false, ◌&&◌, ◌||◌, cond, and-false, or-true, false≢true}
 use mathlib.Core.Logic.{◌⊎◌, inl, inr, ⊎_elim}
 use native.Mathlib.Nat.{le_antisymm, eq-or-lt_of_le, pos_of_ne-zero}
 use native.Mathlib.Numerals.{add-one}
 use native.Mathlib.Omega.{arith}
 use lib.Dec.{eqb, ltb, leb}
-use borrow.Author.Tests.{leb-true, ltb-true, ltb-false, eqb-true, le-leb, le-ltb, lt-ltb, eq-eqb, ne_eqb, not-true, not-false}
+use Rattle.std.specs.Prelude.{Some, None}
+use Rattle.std.proofs.lemmas.Bool.{leb-false}
+use borrow.Author.Tests.{leb-true, ltb-true, ltb-false, eqb-true, le-leb, le-ltb, lt-ltb, eq-eqb, ne_eqb}
 use Rattle.base.specs.Range.{all, count, bit, every}
 use Rattle.base.specs.RangeLaws.{all_none, all_more, all-at, all_each, all_stop, all_done, count_none, count-more, count-le, count-done, or_cases, or_left_no, or_right_no, bool_iff, every-at, and_left, and_right, and_intro}
-use Rattle.profile.specs.Profile.{records, byte_at, is_kind, kind_count, bank_count, kind_before, rises, runs, names_bank, ordered_at, once_each, order_ok, banks_ok}
+use Rattle.profile.specs.Profile.{records, byte_at, is_kind, kind_count, bank_count, kind_before, rises, runs, names_bank, ordered_at}
+use Rattle.profile.specs.Order.{leads_at, follows_at}
 use Rattle.profile.specs.RangeMore.{count_mono, count-reach}
 
 -- record k, if it is of kind 2 to 5, names one of the banks before it or the globals
@@ -21,10 +24,6 @@ names_before s k = (ltb (byte_at s k 0) 2 || ltb 5 (byte_at s k 0)) || (eqb (byt
 
 abbrev pub ordered_here : List ℕ → ℕ → Bool
 ordered_here s k = rises s k && (runs s k && names_before s k)
-
--- 3 or 4, if that is a cause to decline the profile, or 0
-abbrev pub cause_of : List ℕ → ℕ
-cause_of s = cond (order_ok s) (cond (banks_ok s) 0 4) 3
 
 count-step : (p : ℕ → Bool) (k : ℕ) (b : Bool) → p k ≡ b → count (k + 1) p ≡ count k p + bit b
 count-step p k b e = count-more p k ∙ rw e
@@ -100,13 +99,6 @@ module _ (s : List ℕ) where
   abbrev pub right_order : Bool
   right_order = eqb (kind_count s 0) 1 && all (records s) (ordered_at s)
 
-  -- the test of `leads`, and of `follows`
-  abbrev pub leads : ℕ → Bool
-  leads k = (eqb k 0 && eqb (byte_at s k 0) 0) || (eqb (byte_at s k 0) 1 && eqb (byte_at s k 1 + 1) k)
-
-  abbrev pub follows : ℕ → ℕ → ℕ → Bool
-  follows last banks k = leb last (byte_at s k 0) && (ltb 5 (byte_at s k 0) || (eqb (byte_at s k 1) 255 || ltb (byte_at s k 1) banks))
-
   -- the first k records are the settings and banks, in order
   pub record Head (k : ℕ) : Type 0 where
     pub right : all k (ordered_here s) ≡ true
@@ -120,7 +112,8 @@ module _ (s : List ℕ) where
     pub settings : count k (is_kind s 0) ≡ 1
     pub counted : count k (is_kind s 1) ≡ banks
     pub high : 2 ≤ last
-    pub next : k < records s → rises s k ≡ leb last (byte_at s k 0)
+    pub next : leb last (byte_at s k 0) ≡ true → rises s k ≡ true
+    pub stops : k < records s → leb last (byte_at s k 0) ≡ false → right_order ≡ false
 
   wrong : (right_order ≡ true → ⊥) → right_order ≡ false
   wrong h = go right_order h
@@ -142,8 +135,9 @@ module _ (s : List ℕ) where
       let q = eqb-true (byte_at s w.0 0) 0 w.2 in
       omega (arith, h (omega arith), kinds_rise (and_right (eqb (kind_count s 0) 1) _ ok) 0 w.0 (omega arith) w.1))
 
-  pub none_first : (k : ℕ) → k ≡ 0 → (k < records s → 1 < byte_at s k 0) → right_order ≡ false
-  none_first k z up = first_wrong (λ l. let q : 1 < byte_at s 0 0 = rw z at (up (rw z l)) in omega arith)
+  -- no record leads the file
+  pub none_first : (0 < records s → leads_at s 0 ≡ false) → right_order ≡ false
+  none_first stop = first_wrong (λ l. pos_of_ne-zero (λ q. absurd (false≢true (sym (or_left_no (eqb 0 0 && eqb (byte_at s 0 0) 0) _ (stop l)) ∙ and_intro (eqb 0 0) _ refl (eq-eqb (byte_at s 0 0) 0 q)))))
 
   pub head_none : Head 0
   head_none = record { right = all_none _; settings = λ l. absurd (omega arith); banks = count_none _; low = omega arith }
@@ -172,12 +166,17 @@ module _ (s : List ℕ) where
         low = rw add-one (omega arith);
       }
 
-  pub head_more : (k : ℕ) → leads k ≡ true → Head k → Head (k + 1)
+  pub head_more : (k : ℕ) → leads_at s k ≡ true → Head k → Head (k + 1)
   head_more k e h =
       ⊎_elim
       (λ a. settings_next k (eqb-true k 0 (and_left (eqb k 0) _ a)) (eqb-true (byte_at s k 0) 0 (and_right (eqb k 0) _ a)) h)
       (λ b. bank_next k (eqb-true (byte_at s k 0) 1 (and_left (eqb (byte_at s k 0) 1) _ b)) (eqb-true (byte_at s k 1 + 1) k (and_right (eqb (byte_at s k 0) 1) _ b)) h)
       (or_cases (eqb k 0 && eqb (byte_at s k 0) 0) _ e)
+
+  pub head_all : (k : ℕ) → all k (leads_at s) ≡ true → Head k
+  unfolding all
+  head_all zero e = head_none
+  head_all (suc k) e = rw (← add-one) (head_more k (and_right (all k (leads_at s)) _ e) (head_all k (and_left (all k (leads_at s)) _ e)))
 
   -- the settings a second time, or a bank whose number is not its place
   settings_wrong : (k : ℕ) → k < records s → 0 < k → byte_at s k 0 ≡ 0 → Head k → right_order ≡ false
@@ -190,7 +189,7 @@ module _ (s : List ℕ) where
   bank_wrong k l z q b h =
       stop_here k l (rw (eq-eqb (byte_at s k 0) 1 q, ne_eqb (byte_at s k 1) (count k (is_kind s 1)) (λ x. b (omega (arith, h.banks))), and-false))
 
-  pub head_stop : (k : ℕ) → k < records s → byte_at s k 0 ≤ 1 → leads k ≡ false → Head k → right_order ≡ false
+  pub head_stop : (k : ℕ) → k < records s → byte_at s k 0 ≤ 1 → leads_at s k ≡ false → Head k → right_order ≡ false
   head_stop k l a e h =
       let first = or_left_no (eqb k 0 && eqb (byte_at s k 0) 0) _ e in
       let bank = or_right_no (eqb k 0 && eqb (byte_at s k 0) 0) _ e in
@@ -202,83 +201,54 @@ module _ (s : List ℕ) where
       (eq-or-lt_of_le a))
       (eq-or-lt_of_le {n = 0} (omega arith))
 
-  -- behind the settings and the banks
-  pub rest_none : (k : ℕ) → (k ≡ 0 → ⊥) → (k < records s → 1 < byte_at s k 0) → Head k → Rest (k - 1) 2 k
-  rest_none k z up h =
+  -- behind the first k, which lead the file, and where the next does not
+  pub rest_none : (k : ℕ) → (k ≡ 0 → ⊥) → all k (leads_at s) ≡ true → (k < records s → leads_at s k ≡ false) → Rest (k - 1) 2 k
+  rest_none k z lead stop =
+      let h = head_all k lead in
       record {
         right = h.right;
         settings = h.settings (pos_of_ne-zero z);
         counted = h.banks;
         high = omega arith;
-        next = λ l. let q = up l in le-leb (kind_before s k) (byte_at s k 0) (omega (arith, h.low)) ∙ sym (le-leb 2 (byte_at s k 0) q);
+        next = λ e. le-leb (kind_before s k) (byte_at s k 0) (omega (arith, h.low, leb-true 2 (byte_at s k 0) e));
+        stops = λ l e. head_stop k l (omega (arith, leb-false 2 (byte_at s k 0) e)) (stop l) h;
       }
+
+  rises_next : (k : ℕ) → rises s (k + 1) ≡ leb (byte_at s k 0) (byte_at s (k + 1) 0)
+  rises_next k = rw add-one
 
   module _ (banks last k : ℕ) (l : k < records s) (h : Rest banks last k) where
     names_there : leb last (byte_at s k 0) ≡ true → names_before s k ≡ (ltb 5 (byte_at s k 0) || (eqb (byte_at s k 1) 255 || ltb (byte_at s k 1) banks))
     names_there a = let q = leb-true last (byte_at s k 0) a in rw (le-ltb (byte_at s k 0) 2 (omega (arith, h.high)), h.counted)
 
-    pub rest_more : follows last banks k ≡ true → Rest banks (byte_at s k 0) (k + 1)
+    pub rest_more : follows_at s k last banks ≡ true → Rest banks (byte_at s k 0) (k + 1)
     rest_more e =
         let a = and_left (leb last (byte_at s k 0)) _ e in
         let q = leb-true last (byte_at s k 0) a in
         let no : is_kind s 1 k ≡ false = ne_eqb (byte_at s k 0) 1 (λ x. omega (arith, h.high)) in
         record {
-          right = all_more _ k h.right (here k (h.next l ∙ a) (rw no) (names_there a ∙ and_right (leb last (byte_at s k 0)) _ e));
+          right = all_more _ k h.right (here k (h.next a) (rw no) (names_there a ∙ and_right (leb last (byte_at s k 0)) _ e));
           settings = omega (arith, count-step (is_kind s 0) k false (ne_eqb (byte_at s k 0) 0 (λ x. omega (arith, h.high))), h.settings);
           counted = omega (arith, count-step (is_kind s 1) k false no, h.counted);
           high = omega (arith, h.high);
-          next = λ m. rw add-one;
+          next = λ e. rises_next k ∙ e;
+          stops = λ m e. stop_here (k + 1) m (no_left _ _ (rises_next k ∙ e));
         }
 
-    pub rest_stop : follows last banks k ≡ false → right_order ≡ false
+    pub rest_stop : follows_at s k last banks ≡ false → right_order ≡ false
     rest_stop e =
-        stop_here k l
-        (⊎_elim
-        (λ a. no_left (rises s k) _ (h.next l ∙ a))
-        (λ w. rw (names_there w.0, w.1, and-false (runs s k), and-false))
-        (and_no (leb last (byte_at s k 0)) _ e))
+        ⊎_elim
+        (h.stops l)
+        (λ w. stop_here k l (rw (names_there w.0, w.1, and-false (runs s k), and-false)))
+        (and_no (leb last (byte_at s k 0)) _ e)
 
-  pub none_found : right_order ≡ false → 0 ≡ cond right_order (bank_count s + 1) 0
+  pub none_found : right_order ≡ false → None ≡ cond right_order (Some (bank_count s + 1)) None
   none_found e = rw e
 
-  pub all_found : (from last k : ℕ) → (from ≡ 0 → ⊥) → k ≤ records s → records s ≤ k → Rest (from - 1) last k → from ≡ cond right_order (bank_count s + 1) 0
+  pub all_found : (from last k : ℕ) → (from ≡ 0 → ⊥) → k ≤ records s → records s ≤ k → Rest (from - 1) last k → Some from ≡ cond right_order (Some (bank_count s + 1)) None
   unfolding kind_count
   all_found from last k z a b h =
       let settings = count-done (is_kind s 0) k (records s) a b in
       let banks = count-done (is_kind s 1) k (records s) a b in
       rw (eq-eqb (count (records s) (is_kind s 0)) 1 (omega (arith, h.settings)), ← ordered_same, ← all_done (ordered_here s) k (records s) a b h.right)
-      (omega (arith, pos_of_ne-zero z, h.counted))
-
-  -- what `ordered` finds, as each return of `cause` uses it
-  order_is : order_ok s ≡ (right_order && once_each s)
-  unfolding order_ok every
-  order_is = rw and_assoc
-
-  found_none : (r : Bool) (n : ℕ) → 0 ≡ cond r (n + 1) 0 → r ≡ false
-  found_none true n e = absurd (omega arith)
-  found_none false n e = refl
-
-  found_some : (r : Bool) (m n : ℕ) → m ≡ cond r (n + 1) 0 → (m ≡ 0 → ⊥) → (r ≡ true) × (m ≡ n + 1)
-  found_some true m n e z = (refl, e)
-  found_some false m n e z = absurd (z e)
-
-  module _ (m : ℕ) (p : m ≡ cond right_order (bank_count s + 1) 0) where
-    pub by_order : m ≡ 0 → 3 ≡ cause_of s
-    by_order x = rw (order_is, found_none right_order (bank_count s) (sym x ∙ p))
-
-    pub by_found : (m ≡ 0 → ⊥) → all (records s) (ordered_at s) ≡ true
-    by_found x = and_right (eqb (kind_count s 0) 1) _ (found_some right_order m (bank_count s) p x).0
-
-    module _ (b : Bool) (x : m ≡ 0 → ⊥) (q : b ≡ once_each s) where
-      pub by_once : not b ≡ true → 3 ≡ cause_of s
-      by_once y = rw (order_is, ← q, not-true b y, and-false)
-
-      pub by_bank : not b ≡ false → m ≡ 1 → 4 ≡ cause_of s
-      by_bank y z =
-          let w = found_some right_order m (bank_count s) p x in
-          rw (order_is, ← q, not-false b y, w.0, eq-eqb (bank_count s) 0 (omega (arith, w.1)))
-
-      pub by_neither : not b ≡ false → (m ≡ 1 → ⊥) → 0 ≡ cause_of s
-      by_neither y z =
-          let w = found_some right_order m (bank_count s) p x in
-          rw (order_is, ← q, not-false b y, w.0, ne_eqb (bank_count s) 0 (λ k. z (omega (arith, w.1))))
+      (ap Some (omega (arith, pos_of_ne-zero z, h.counted)))

@@ -4,3 +4,4 @@ pub mod Fields
 pub mod Order
 pub mod Limits
 pub mod Accepted
+pub mod Refusal

@@ -1,13 +1,14 @@
 -- What the loops of `ordered` test; the loop of `once_each`: where its table keeps a record, its invariant, and a law for each way through a turn. Assumes
 -- nothing.
 use Rattle.std.specs.Prelude.{ℕ, ◌+◌, ◌*◌, ◌/◌, ◌%◌, ◌≤◌, ◌<◌, ◌≡◌, refl, List, Bool, false, ◌&&◌, ◌||◌, not, ◌⊎◌, length, get_or, set, replicate, eqb, leb, ltb}
-use Rattle.std.proofs.Common.{sym, ap, ◌∙◌, ⊎_elim, arith, length-set}
-use Rattle.std.proofs.Math.Bool.{true}
-use Rattle.std.proofs.lemmas.List.{length-replicate}
+use Rattle.std.proofs.Common.{sym, ap, ◌∙◌, ⊎_elim, arith, length-set, get_or-set_same, get_or-set_other, ne_eqb}
+use Rattle.std.proofs.Math.Bool.{true, or-true, or-false}
+use Rattle.std.proofs.Math.Decide.{ℕ_discrete}
+use Rattle.std.proofs.lemmas.List.{length-replicate, get_or-replicate}
 use borrow.Author.Tests.{eqb-true, eq-eqb}
-use Rattle.base.specs.Range.{all, any, bit, every}
-use Rattle.base.specs.RangeLaws.{all_none, all_more, every-at, and_left, and_right, and_intro, any_cong, bool_iff}
-use Rattle.base.specs.Tables.{hit, Marks, marks_none, marks_skip, marks_set}
+use Rattle.base.specs.Range.{all, any, every}
+use Rattle.base.specs.RangeLaws.{all_none, all_more, any_none, any-more, every-at, and_left, and_right, and_intro, any_cong, bool_iff}
+use Rattle.base.specs.Tables.{hit}
 use Rattle.profile.specs.Profile.{records, byte_at, control, same, again, fields_ok}
 use Rattle.profile.specs.Fields.{control-at, control_kinds}
 
@@ -95,41 +96,55 @@ module _ (s : List ℕ) (k : ℕ) (ok : fields_ok s ≡ true) (in_file : k < rec
   seen-again : any k (hit (is_control s) (slot_at s) (slot_at s k)) ≡ any k (same s k)
   seen-again = any_cong _ _ k (λ j l. bool_iff _ _ (place_same j l) (same_place j))
 
--- the loop's invariant: the table marks the places of the first k records, and none of these is there again
-pub record Once (s seen : List ℕ) (k : ℕ) : Type 0 where
+-- a table that flags each key seen so far
+module _ (f : ℕ → Bool) (key : ℕ → ℕ) where
+  -- entry v of the table says whether some number below i hits v
+  abbrev pub Flags : ℕ → List Bool → ℕ → Type 0
+  Flags size tab i = (v : ℕ) → v < size → get_or tab v false ≡ any i (hit f key v)
+
+  flags_none : (size : ℕ) → Flags size (replicate size false) 0
+  flags_none size v l = get_or-replicate size v false false l ∙ sym (any_none (hit f key v))
+
+  flags_skip : (size : ℕ) (tab : List Bool) (i : ℕ) → f i ≡ false → Flags size tab i → Flags size tab (i + 1)
+  flags_skip size tab i e m v l = m v l ∙ rw (any-more, e, or-false)
+
+  -- i is of the sort, and its entry is set
+  flags_set : (size : ℕ) (tab : List Bool) (i : ℕ) → size ≡ length tab → key i < size → f i ≡ true → Flags size tab i → Flags size (set tab (key i) true) (i + 1)
+  flags_set size tab i long in_table e m v l =
+      elim (ℕ_discrete v (key i)) [
+        | yes q ↦
+            rw (q, any-more, e, eq-eqb (key i) (key i) refl, or-true) (get_or-set_same tab (key i) true false (rw (← long) in_table))
+        | no q ↦
+            get_or-set_other tab (key i) v true false q ∙ m v l ∙ rw (any-more, e, ne_eqb (key i) v (λ p. q (sym p)), or-false)
+      ]
+
+-- the loop's invariant: the table flags the places of the first k records, and none of these is there again
+pub record Once (s : List ℕ) (seen : List Bool) (k : ℕ) : Type 0 where
   pub long : 1024 ≡ length seen
-  pub marks : Marks (is_control s) (slot_at s) 1024 seen k
+  pub flags : Flags (is_control s) (slot_at s) 1024 seen k
   pub none : all k (λ i. not (again s i)) ≡ true
-
-bit-zero : (b : Bool) → bit b ≡ 0 → b ≡ false
-bit-zero true e = let z : ◌≡◌ {A = ℕ} 0 1 = sym e in absurd (omega arith)
-bit-zero false e = refl
-
-bit-one : (b : Bool) → (bit b ≡ 0 → ⊥) → b ≡ true
-bit-one true e = refl
-bit-one false e = absurd (e refl)
 
 slot_lt : (s : List ℕ) (k : ℕ) → slot_at s k < 1024
 slot_lt s k = omega arith
 
-pub once_start : (s : List ℕ) → Once s (replicate 1024 0) 0
-once_start s = record { long = sym (length-replicate {A = ℕ} 1024 0); marks = marks_none (is_control s) (slot_at s) 1024; none = all_none _ }
+pub once_start : (s : List ℕ) → Once s (replicate 1024 false) 0
+once_start s = record { long = sym (length-replicate {A = Bool} 1024 false); flags = flags_none (is_control s) (slot_at s) 1024; none = all_none _ }
 
-pub once_skip : (s : List ℕ) (k : ℕ) (seen : List ℕ) → is_control s k ≡ false → Once s seen k → Once s seen (k + 1)
+pub once_skip : (s : List ℕ) (k : ℕ) (seen : List Bool) → is_control s k ≡ false → Once s seen k → Once s seen (k + 1)
 once_skip s k seen e h =
-    record { long = h.long; marks = marks_skip (is_control s) (slot_at s) 1024 seen k e h.marks; none = all_more _ k h.none (rw e) }
+    record { long = h.long; flags = flags_skip (is_control s) (slot_at s) 1024 seen k e h.flags; none = all_more _ k h.none (rw e) }
 
-module _ (s : List ℕ) (k : ℕ) (seen : List ℕ) (ok : fields_ok s ≡ true) (in_file : k < records s) (of : is_control s k ≡ true) (h : Once s seen k) where
-  mark : get_or seen (slot_at s k) 0 ≡ bit (any k (same s k))
-  mark = h.marks (slot_at s k) (slot_lt s k) ∙ ap bit (seen-again s k ok in_file of)
+module _ (s : List ℕ) (k : ℕ) (seen : List Bool) (ok : fields_ok s ≡ true) (in_file : k < records s) (of : is_control s k ≡ true) (h : Once s seen k) where
+  flag : get_or seen (slot_at s k) false ≡ any k (same s k)
+  flag = h.flags (slot_at s k) (slot_lt s k) ∙ seen-again s k ok in_file of
 
-  pub once_mark : get_or seen (slot_at s k) 0 ≡ 0 → Once s (set seen (slot_at s k) 1) (k + 1)
+  pub once_mark : get_or seen (slot_at s k) false ≡ false → Once s (set seen (slot_at s k) true) (k + 1)
   once_mark z =
       record {
-        long = h.long ∙ sym (length-set seen (slot_at s k) 1);
-        marks = marks_set (is_control s) (slot_at s) 1024 seen k h.long (slot_lt s k) of h.marks;
-        none = all_more _ k h.none (rw (of, bit-zero (any k (same s k)) (sym mark ∙ z)));
+        long = h.long ∙ sym (length-set seen (slot_at s k) true);
+        flags = flags_set (is_control s) (slot_at s) 1024 seen k h.long (slot_lt s k) of h.flags;
+        none = all_more _ k h.none (rw (of, sym flag ∙ z));
       }
 
-  pub once_found : (get_or seen (slot_at s k) 0 ≡ 0 → ⊥) → not (again s k) ≡ false
-  once_found z = rw (of, bit-one (any k (same s k)) (λ q. z (mark ∙ q)))
+  pub once_found : get_or seen (slot_at s k) false ≡ true → not (again s k) ≡ false
+  once_found z = rw (of, sym flag ∙ z)

@@ -3,39 +3,71 @@
 // The profile: records of 32 bytes, and the numbers 1 to 6 with which it is declined.
 ghost use Rattle.std.specs.Prelude.{◌≡◌};
 ghost use Rattle.profile.specs.Profile.{verdict, size_ok};
+ghost use Rattle.profile.specs.Refusal.{number_of, verdict_of};
 
 mod ends;
 mod fields;
 mod limits;
 mod order;
-pub mod view;
+pub mod record;
 
-fn size_ok(s: &[u8]) -> bool
-    ensures { result ≡ size_ok s.now }
-{
-    let n = s.len();
-    (0 < n) & ((n <= 65536) & (n % 32 == 0))
+// Why a profile is declined: the causes by their numbers.
+#[derive(Clone, Copy, PartialEq, Eq)]
+pub enum Refusal {
+    // The length is 0, no multiple of 32, or above 65,536.
+    Size = 1,
+    // A field is outside the ranges of its kind.
+    Fields,
+    // Kinds, banks or numbers are out of order.
+    Order,
+    // There is no bank.
+    Banks,
+    // There are more scenes, transports or buttons than the bridge has room for.
+    Limits,
+    // An end of a range is not finite.
+    Ends,
 }
 
-// The number of the first cause to decline the profile, or 0.
-pub fn examine(profile: &[u8]) -> u8
-    ensures { result ≡ verdict profile.now }
+impl Refusal {
+    pub fn number(self) -> u8
+        ensures { result ≡ number_of self }
+    {
+        self as u8
+    }
+}
+
+// The number of a refusal, 0 if the profile is accepted.
+pub fn number(verdict: Result<(), Refusal>) -> u8
+    ensures { result ≡ verdict_of verdict }
+{
+    verdict.map_or_else(Refusal::number, |_| 0)
+}
+
+#[tactic(auto, unfolding(base::specs::Range::every))]
+fn size_ok(profile: &[u8]) -> bool
+    ensures { result ≡ size_ok profile.now }
+{
+    let n = profile.len();
+    (0 < n) & (n <= 65536) & (n % 32 == 0)
+}
+
+// The lowest cause to decline the profile, if there is one.
+#[tactic(auto, unfolding(crate::specs::Profile::verdict))]
+pub fn examine(profile: &[u8]) -> Result<(), Refusal>
+    ensures { verdict_of result ≡ verdict profile.now }
 {
     if !size_ok(profile) {
-        return 1;
+        return Err(Refusal::Size);
     }
     if !fields::fields_ok(profile) {
-        return 2;
+        return Err(Refusal::Fields);
     }
-    let order = order::cause(profile);
-    if order != 0 {
-        return order;
-    }
+    order::examine(profile)?;
     if !limits::limits_ok(profile) {
-        return 5;
+        return Err(Refusal::Limits);
     }
     if !ends::finite_ok(profile) {
-        return 6;
+        return Err(Refusal::Ends);
     }
-    0
+    Ok(())
 }

@@ -10,6 +10,9 @@ const STDIN_FILENO: i32 = 0;
 
 const STDOUT_FILENO: i32 = 1;
 
+// Some more than the longest profile has.
+const ROOM: u32 = 65600;
+
 fn say(text: &[u8]) {
     io::write_all(STDOUT_FILENO, text);
 }
@@ -25,32 +28,26 @@ fn read_some(room: &mut [u8], n: usize) -> usize
 // Reads a name and writes it out; false where the input ends.
 fn pass_name() -> bool {
     let mut length = [0u8; 1];
-    let got = io::read_full(STDIN_FILENO, &mut length);
-    if got < 1 {
+    if io::read_full(STDIN_FILENO, &mut length) == 0 {
         return false;
     }
     let mut name = [0u8; 256];
-    let n = profile::view::wide(length[0]);
-    let m = read_some(&mut name, n);
+    let m = read_some(&mut name, usize::from(length[0]));
     say(&name[..m]);
     true
 }
 
-// What is asked for, at most the room that there is: some more than the longest profile has.
-fn within(asked: u32) -> usize
-    ensures { result ≤ 65600 }
-{
-    if asked < 65600 { asked as usize } else { 65600 }
-}
-
-// Reads a profile and writes its number.
+// Reads a profile, of a longer one as much as there is room for, and writes its number.
 fn pass_profile() {
     let mut length = [0u8; 4];
     io::read_full(STDIN_FILENO, &mut length);
-    let mut room = [0u8; 65600];
-    let n = within(base::read_u32(&length, 0));
+    let mut room = [0u8; ROOM as usize];
+    let n = u32::from_le_bytes(length).min(ROOM) as usize;
     let m = read_some(&mut room, n);
-    io::print_decimal(STDOUT_FILENO, profile::examine(&room[..m]) as u64);
+    io::print_decimal(
+        STDOUT_FILENO,
+        u64::from(profile::number(profile::examine(&room[..m]))),
+    );
 }
 
 fn pass() -> bool {
@@ -63,10 +60,11 @@ fn pass() -> bool {
     true
 }
 
-// A loop that is proved has to end, and nothing says that the input does: the turns are counted, from a number that no run uses up.
+// A loop that is proved has to end, and nothing says that the input does: the turns are counted, to a number that no run uses up.
 fn main() {
-    let mut turns = u64::MAX;
-    while turns > 0 && pass() {
-        turns -= 1;
+    for _ in 0..u64::MAX {
+        if !pass() {
+            break;
+        }
     }
 }

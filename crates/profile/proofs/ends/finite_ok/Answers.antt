@@ -1,27 +1,22 @@
 -- `profile::ends::finite_ok` meets its contract. Assumes nothing.
-use mathlib.Core.Path.{sym, ◌∙◌}
-use native.Mathlib.Omega.{arith}
-use borrow.Author.Tests.{not-true, not-false}
-use Rattle.base.specs.RangeLaws.{all_none, all_more, all_done, all_stop}
-use Rattle.profile.specs.Profile.{finite_ok}
+use Rattle.std.proofs.Common.{rules, arith, ◌∙◌, refl, ℕ}
+use Rattle.std.specs.Prelude.{leb}
+use Rattle.std.proofs.lemmas.Bool.{leb-false}
+use Rattle.std.proofs.lemmas.Iterator.{YieldsList-from_range}
+use Rattle.std.proofs.lemmas.Iterator.Consumers.{YieldsList-at}
+use Rattle.std.proofs.lemmas.Iterator.Search.{all_from_yields_List, YieldsList-from_take_while}
+use Rattle.profile.specs.Profile.{records, byte_at, ends_finite}
+use Rattle.profile.proofs.Chains.{front, front-le, front_stops, list_all-front}
 use Rattle.profile.proofs.Behind.{finite_past, all-ordered}
-use borrow.Author.Rules.{rules}
 use Rattle.profile.proofs.ends.finite_ok.Goals as goal
 
-pub loop-k-init : goal.loop-k-init
-loop-k-init c = (search rules, all_none _)
-
-pub returns-then-byte-gt3 : goal.returns-then-byte-gt3
-returns-then-byte-gt3 c = let at = c in
-    finite_past _ at.loop-k.k (all-ordered _ at.requires) (omega arith) (omega (arith, c.byte.ensures)) at.loop-k.invariant.1
-
-pub returns-then-not-ends_finite : goal.returns-then-not-ends_finite
-unfolding finite_ok
-returns-then-not-ends_finite c = all_stop _ _ _ (omega arith) (sym c.ends_finite.ensures ∙ not-true _ c.if-not-ends_finite.true-raw)
-
-pub loop-k-preserved : goal.loop-k-preserved
-loop-k-preserved c = (search rules, all_more _ _ c.loop-k.invariant.1 (sym c.ends_finite.ensures ∙ not-false _ c.if-not-ends_finite.false-raw))
-
 pub returns : goal.returns
-unfolding finite_ok
-returns c = all_done _ _ _ (omega arith) (omega arith) c.loop-k.invariant.1
+returns c =
+    let s = c.args.profile.now in
+    let low = λ (k : ℕ). leb (byte_at s k 0) 3 in
+    let n = records s in
+    all_from_yields_List (ends_finite s) _ _ _ c.all.ensures.ran
+    (YieldsList-from_take_while _ low (YieldsList-at c.take_while.ensures.source (YieldsList-from_range 0 c.count.result n refl (omega arith))) c.take_while.ensures.closure c.take_while.ensures.done (λ x b q k. search rules))
+    (λ x b q k. search rules)
+    ∙ list_all-front low n (ends_finite s)
+    ∙ finite_past s (front low n) (all-ordered s c.requires) (front-le low n) (λ l. leb-false _ 3 (front_stops low n l))

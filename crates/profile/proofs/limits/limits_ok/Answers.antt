@@ -1,29 +1,31 @@
 -- `profile::limits::limits_ok` meets its contract. Assumes nothing.
-use Rattle.profile.specs.Limits.{counted, tally_start, tally_le, tally_skip, tally_add, tally_limits}
-use mathlib.Core.Path.{sym, ap, ◌∙◌}
-use native.Mathlib.Omega.{arith}
-use lib.ListN.{length-set}
-use borrow.Author.Rules.{rules}
+use Rattle.std.proofs.Common.{arith, rules, ◌≡◌, true, false}
+use Rattle.std.proofs.Math.Bool.{and_assoc}
+use Rattle.profile.specs.Profile.{byte_at}
+use Rattle.profile.specs.Limits.{counted, row_at, tally_start, tally_le, tally_skip, tally_add, tally_limits}
 use Rattle.profile.proofs.limits.limits_ok.Goals as goal
+use Rattle.profile.proofs.limits.limits_ok.Goals.{then-is_counted, else-is_counted}
 
 pub loop-k-init : goal.loop-k-init
-loop-k-init c = (search rules, search rules, tally_start _)
+loop-k-init c = tally_start _
 
 pub overflow_add-table : goal.overflow_add-table
-overflow_add-table c = let at = c in
-    omega (arith, tally_le _ at.loop-k.table _ c.row-at.result at.loop-k.invariant.2 c.row-at.ensures.1, at.requires.0)
-
-pub loop-k-preserved-then-is_counted : goal.loop-k-preserved-then-is_counted
-loop-k-preserved-then-is_counted c = let at = c in (
-  omega arith,
-  simp length-set (omega arith),
-  tally_add _ _ _ _ (ap counted (sym c.byte.ensures) ∙ sym c.is_counted.ensures ∙ c.if-is_counted.true) c.row-at.ensures.0 c.row-at.ensures.1 at.loop-k.invariant.2,
-)
+overflow_add-table c =
+    let row : c.row.result ≡ row_at c.args.profile.now c.loop-k.k = cc in
+    omega (arith, tally_le _ c.loop-k.table _ c.row.result c.loop-k.invariant c.row.ensures.1, c.requires.0)
 
 pub loop-k-preserved : goal.loop-k-preserved
-loop-k-preserved c = let at = c in
-    (omega arith, at.loop-k.invariant.1, tally_skip _ _ _ (ap counted (sym c.byte.ensures) ∙ sym c.is_counted.ensures ∙ c.if-is_counted.false) at.loop-k.invariant.2)
+loop-k-preserved c =
+    elim c.if-is_counted.branch [
+      | then-is_counted w ↦
+          let of : counted (byte_at c.args.profile.now c.loop-k.k 0) ≡ true = search rules in
+          let row : w.row.result ≡ row_at c.args.profile.now c.loop-k.k = cc in
+          rw w.table-is (tally_add _ _ _ _ of row w.row.ensures.1 c.loop-k.invariant)
+      | else-is_counted w ↦
+          let other : counted (byte_at c.args.profile.now c.loop-k.k 0) ≡ false = search rules in
+          rw w.table-is (tally_skip _ _ _ other c.loop-k.invariant)
+    ]
 
 pub returns : goal.returns
-returns c = let at = c in
-    tally_limits _ at.loop-k.table at.loop-k.k at.requires.1 (omega arith) (omega arith) at.loop-k.invariant.2 _ _ _ c.all_at_most.ensures c.all_at_most-2.ensures c.all_at_most-3.ensures
+returns c =
+    rw and_assoc (tally_limits _ c.loop-k.table c.loop-k.k c.requires.1 (omega arith) (omega arith) c.loop-k.invariant _ _ _ c.all_at_most.ensures c.all_at_most-2.ensures c.all_at_most-3.ensures)

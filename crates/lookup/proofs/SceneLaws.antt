@@ -1,56 +1,49 @@
--- The loops over a bank's scenes. Assumes nothing.
-use Rattle.std.specs.Prelude.{ℕ, ◌+◌, ◌≤◌, ◌<◌, ◌≡◌, List, true, length, get_or}
-use Rattle.std.proofs.Math.Path.{sym}
-use Rattle.std.proofs.Common.{◌∙◌, eq-eqb, ne_eqb, None, Some}
-use Rattle.std.proofs.Math.Dec.{eqb}
-use Rattle.base.specs.Range.{count}
+-- The scenes of a bank, among its records. Assumes nothing.
+use Rattle.std.specs.Prelude.{ℕ, ◌≡◌, List, map, length, get_or, eqb, None, Some, Option, MatchOption}
+use Rattle.std.specs.List.{slice_get, position as place_of}
+use Rattle.std.specs.Option.{option_map, unwrap_or}
+use Rattle.std.proofs.Common.{sym, ap, ◌∙◌, arith}
+use Rattle.std.proofs.lemmas.List.{length-map}
+use Rattle.std.proofs.lemmas.Option.{slice_get-map, unwrap_or-slice_get}
+use Rattle.std.proofs.Math.ListN.{get_or-map}
 use Rattle.base.specs.First.{first}
-use Rattle.base.specs.FirstLaws.{first_more, first-hit}
-use Rattle.profile.specs.RangeMore.{count-lt}
+use Rattle.base.specs.FirstLaws.{first_cong}
+use Rattle.base.specs.KeyedLaws.{other_none}
+use Rattle.base.specs.StdLaws.{position-first}
+use Rattle.profile.specs.declared.record.Record.{Record}
 use Rattle.profile.specs.Profile.{half_at}
-use Rattle.lookup.specs.Lookup.{of_part, reach, scenes_of, position}
-use Rattle.lookup.specs.GatherLaws.{Walked}
-use Rattle.lookup.proofs.GatherLaws.{gather-length, gather-at, gather-past}
+use Rattle.lookup.specs.Lookup.{reach, scenes_of, position}
+use Rattle.lookup.specs.Rows.{Row, row, row_of, of, rows_of}
+use Rattle.lookup.proofs.Rows.{gather_rows}
 
-module _ (s : List ℕ) (b : ℕ) where
-  scenes-length : length (scenes_of s b) ≡ count (reach s 4) (of_part s 4 b)
-  unfolding scenes_of
-  scenes-length = gather-length (of_part s 4 b) (λ k. half_at s k 4) (reach s 4)
+abbrev name_in : Row → ℕ
+name_in r = half_at r.profile r.k 4
 
-  module _ (m k : ℕ) (w : Walked (of_part s 4 b) m k) where
-    -- the record at which the loop stands is scene m
-    scene_here : k < reach s 4 → of_part s 4 b k ≡ true → half_at s k 4 ≡ get_or (scenes_of s b) m 65535
-    unfolding scenes_of
-    scene_here l e = rw w.is (gather-at (of_part s 4 b) (λ j. half_at s j 4) 65535 (reach s 4) k l e)
+names : (s : List ℕ) (b : ℕ) → map name_in (rows_of s 4 b) ≡ scenes_of s b
+unfolding scenes_of
+names s b = gather_rows s (of 4 b) name_in (reach s 4)
 
-    scene-lt : k < reach s 4 → of_part s 4 b k ≡ true → m < length (scenes_of s b)
-    scene-lt l e = rw (scenes-length, w.is) (count-lt (of_part s 4 b) k (reach s 4) l e)
+pub scenes-counted : (s : List ℕ) (b : ℕ) → length (rows_of s 4 b) ≡ length (scenes_of s b)
+scenes-counted s b = sym (length-map (rows_of s 4 b) name_in) ∙ ap length (names s b)
 
-    pub scenes-counted : reach s 4 ≡ k → m ≡ length (scenes_of s b)
-    scenes-counted e = w.is ∙ rw (scenes-length, e)
+-- the n-th record is there with its name, or there is none
+pub scene_named : (s : List ℕ) (b n x : ℕ) (r : Option Record) → option_map row_of r ≡ slice_get (rows_of s 4 b) n →
+    MatchOption r (x ≡ 65535) (λ y. x ≡ half_at y.profile.now y.k 4) → x ≡ get_or (scenes_of s b) n 65535
+scene_named s b n x r e h =
+    go r h ∙ ap (λ o. unwrap_or (option_map name_in o) 65535) e ∙ ap (λ o. unwrap_or o 65535) (sym (slice_get-map name_in (rows_of s 4 b) n))
+    ∙ unwrap_or-slice_get (map name_in (rows_of s 4 b)) n 65535 ∙ ap (λ l. get_or l n 65535) (names s b)
+  where
+    go : (r : Option Record) → MatchOption r (x ≡ 65535) (λ y. x ≡ half_at y.profile.now y.k 4) → x ≡ unwrap_or (option_map name_in (option_map row_of r)) 65535
+    go (Some y) h = h
+    go None h = h
 
-    -- `scene_name`: the n-th is here, or there is none
-    pub name-hit : (n x : ℕ) → k < reach s 4 → of_part s 4 b k ≡ true → m ≡ n → x ≡ half_at s k 4 → x ≡ get_or (scenes_of s b) n 65535
-    name-hit n x l e q h = h ∙ scene_here l e ∙ rw q
-
-    pub name_done : (n : ℕ) → reach s 4 ≡ k → m ≤ n → 65535 ≡ get_or (scenes_of s b) n 65535
-    unfolding scenes_of
-    name_done n e q = gather-past (of_part s 4 b) (λ j. half_at s j 4) 65535 (reach s 4) n (rw (e, ← w.is) q)
-
-    -- `scene_position`: none of the first m has the name
-    module _ (name : ℕ) (none : first m (λ i. eqb (get_or (scenes_of s b) i 65535) name) ≡ None) where
-      pub position-hit : (x : ℕ) → k < reach s 4 → of_part s 4 b k ≡ true → x ≡ half_at s k 4 → x ≡ name → Some m ≡ position name (scenes_of s b)
-      unfolding position
-      position-hit x l e h q =
-          first-hit (λ i. eqb (get_or (scenes_of s b) i 65535) name) (length (scenes_of s b)) m none
-          (eq-eqb (get_or (scenes_of s b) m 65535) name (sym (scene_here l e) ∙ sym h ∙ q)) (scene-lt l e)
-
-      pub position-more : (x : ℕ) → k < reach s 4 → of_part s 4 b k ≡ true → x ≡ half_at s k 4 → (x ≡ name → ⊥) →
-          first (m + 1) (λ i. eqb (get_or (scenes_of s b) i 65535) name) ≡ None
-      position-more x l e h q =
-          first_more (λ i. eqb (get_or (scenes_of s b) i 65535) name) m none
-          (ne_eqb (get_or (scenes_of s b) m 65535) name (λ r. q (h ∙ scene_here l e ∙ r)))
-
-      pub position-done : reach s 4 ≡ k → None ≡ position name (scenes_of s b)
-      unfolding position
-      position-done e = rw (← scenes-counted e) (sym none)
+-- the first record of a name has the first place of the name
+pub scene_place : (s : List ℕ) (b name : ℕ) → place_of (λ r. eqb (half_at r.profile r.k 4) name) (rows_of s 4 b) ≡ position name (scenes_of s b)
+unfolding position
+scene_place s b name =
+    let l = rows_of s 4 b in
+    position-first (λ r. eqb (name_in r) name) (row s 0) l
+    ∙ first_cong _ (λ i. eqb (get_or (map name_in l) i 65535) name) (length l)
+    (λ k h. ap (λ x. eqb x name) (sym (get_or-map name_in l k (row s 0)) ∙ other_none (map name_in l) k (name_in (row s 0)) 65535 (omega (arith, length-map l name_in))))
+    ∙ ap (λ m. first m (λ i. eqb (get_or (map name_in l) i 65535) name)) (sym (length-map l name_in))
+    ∙ ap (λ m. first (length m) (λ i. eqb (get_or m i 65535) name)) (names s b)

@@ -1,16 +1,16 @@
 -- The loop of `most_common`: its invariant, and a law for each way through a turn. Assumes nothing.
-use Rattle.std.specs.Prelude.{ℕ, ◌+◌, ◌≤◌, ◌<◌, ◌≡◌, List, true, false, length, get_or}
+use Rattle.std.specs.Prelude.{ℕ, ◌+◌, ◌≤◌, ◌<◌, ◌≡◌, ◌⊎◌, refl, List, true, false, length, get_or, eqb}
 use Rattle.std.proofs.Math.Path.{sym, ap}
-use Rattle.std.proofs.Common.{◌∙◌, ⊎_elim, eq-or-lt_of_le, arith}
+use Rattle.std.proofs.Common.{◌∙◌, ⊎_elim, inr, eq-or-lt_of_le, arith}
 use Rattle.std.proofs.Math.Dec.{leb}
-use borrow.Author.Tests.{le-leb, lt-leb}
+use borrow.Author.Tests.{le-leb, lt-leb, eq-eqb}
 use Rattle.base.specs.RangeLaws.{all_each, all_stop}
-use Rattle.base.specs.FirstLaws.{first-hit, first-none}
-use Rattle.lookup.specs.FirstMore.{first-nothing}
+use Rattle.base.specs.FirstLaws.{first-none, first_is}
+use Rattle.profile.specs.RangeMore.{count-lt}
 use Rattle.lookup.specs.Lookup.{times, top_at, value_at, most_common}
 
 -- how often the one at j is there
-abbrev times_at : List ℕ → ℕ → ℕ
+abbrev pub times_at : List ℕ → ℕ → ℕ
 times_at l j = times (get_or l j 0) l
 
 -- of the first i, `best`, at p, is the first of the most frequent, and it is there `often`
@@ -22,43 +22,32 @@ pub record Best (l : List ℕ) (i best often : ℕ) : Type 0 where
   pub most : (j : ℕ) → j < i → times_at l j ≤ often
   pub earlier : (j : ℕ) → j < p → times_at l j < often
 
-pub best_start : (l : List ℕ) (x often : ℕ) → x ≡ get_or l 0 0 → often ≡ times x l → Best l 1 x often
-best_start l x often e h =
-    let q : often ≡ times_at l 0 = h ∙ rw e in
-    record {
-      p = 0;
-      before = omega arith;
-      is = e;
-      counted = q;
-      most = λ j m. let z : j ≡ 0 = omega arith in rw z (omega arith);
-      earlier = λ j m. absurd (omega arith);
-    }
+-- or there is none yet
+abbrev pub Leads : List ℕ → ℕ → ℕ → ℕ → Type 0
+Leads l i best often = ((i ≡ 0) × (best ≡ 65535) × (often ≡ 0)) ⊎ Best l i best often
 
-module _ (l : List ℕ) (i best often : ℕ) (b : Best l i best often) (x m : ℕ) (e : x ≡ get_or l i 0) (h : m ≡ times x l) where
-  at_i : m ≡ times_at l i
-  at_i = h ∙ rw e
+-- the one at i is there, and so it is counted
+counted_once : (l : List ℕ) (i : ℕ) → i < length l → 0 < times_at l i
+unfolding times
+counted_once l i h = omega (arith, count-lt (λ k. eqb (get_or l k 0) (get_or l i 0)) i (length l) h (eq-eqb (get_or l i 0) (get_or l i 0) refl))
 
-  pub best_keep : m ≤ often → Best l (i + 1) best often
-  best_keep q =
-      record {
-        p = b.p;
-        before = omega (arith, b.before);
-        is = b.is;
-        counted = b.counted;
-        most = λ j n. ⊎_elim (λ z. let w : j ≡ i = omega arith in rw (w, ← at_i) q) (λ n'. b.most j (omega arith)) (eq-or-lt_of_le n);
-        earlier = b.earlier;
-      }
+module _ (l : List ℕ) (i best often : ℕ) (leads : Leads l i best often) (m : ℕ) (h : m ≡ times_at l i) where
+  below : (j : ℕ) → j < i → times_at l j ≤ often
+  below j n = ⊎_elim (λ w. absurd (omega arith)) (λ b. b.most j n) leads
 
-  pub best_new : often < m → Best l (i + 1) x m
-  best_new q =
-      record {
-        p = i;
-        before = omega arith;
-        is = e;
-        counted = at_i;
-        most = λ j n. ⊎_elim (λ z. let w : j ≡ i = omega arith in rw (w, ← at_i) (omega arith)) (λ n'. omega (arith, b.most j (omega arith))) (eq-or-lt_of_le n);
-        earlier = λ j n. omega (arith, b.most j n);
-      }
+  up_to : (top : ℕ) → often ≤ top → m ≤ top → (j : ℕ) → j < i + 1 → times_at l j ≤ top
+  up_to top p q j n = ⊎_elim (λ z. let w : j ≡ i = omega arith in rw (w, ← h) q) (λ n'. omega (arith, below j (omega arith))) (eq-or-lt_of_le n)
+
+  pub leads_keep : i < length l → m ≤ often → Leads l (i + 1) best often
+  leads_keep there q =
+      ⊎_elim
+      (λ w. absurd (omega (arith, counted_once l i there)))
+      (λ b. inr (record { p = b.p; before = omega (arith, b.before); is = b.is; counted = b.counted; most = up_to often (omega arith) q; earlier = b.earlier }))
+      leads
+
+  pub leads_new : (x : ℕ) → x ≡ get_or l i 0 → often < m → Leads l (i + 1) x m
+  leads_new x e q =
+      inr (record { p = i; before = omega arith; is = e; counted = h; most = up_to m (omega arith) (omega arith); earlier = λ j n. omega (arith, below j n) })
 
 module _ (l : List ℕ) (i best often : ℕ) (b : Best l i best often) (end : i ≡ length l) where
   top : top_at l b.p ≡ true
@@ -71,10 +60,13 @@ module _ (l : List ℕ) (i best often : ℕ) (b : Best l i best often) (end : i 
       sym (all_stop (λ k. leb (times_at l k) (times_at l j)) (length l) b.p (omega (arith, b.before))
       (lt-leb (times_at l b.p) (times_at l j) (omega (arith, b.earlier j n, b.counted))))
 
-  pub best_done : best ≡ most_common l
+  best_done : best ≡ most_common l
   unfolding most_common
-  best_done = b.is ∙ ap (value_at l) (first-hit (top_at l) (length l) b.p (first-nothing (top_at l) b.p not_top) top (omega (arith, b.before)))
+  best_done = b.is ∙ ap (value_at l) (first_is (top_at l) (length l) b.p (omega (arith, b.before)) not_top top)
 
-pub none_common : (l : List ℕ) → length l ≡ 0 → 65535 ≡ most_common l
+none_common : (l : List ℕ) → length l ≡ 0 → 65535 ≡ most_common l
 unfolding most_common
 none_common l e = rw (e, first-none (top_at l))
+
+pub leads_done : (l : List ℕ) (i best often : ℕ) → Leads l i best often → i ≡ length l → best ≡ most_common l
+leads_done l i best often leads end = ⊎_elim (λ w. w.1 ∙ none_common l (sym end ∙ w.0)) (λ b. best_done l i best often b end) leads

@@ -5,18 +5,6 @@ use Rattle.std.proofs.Math.Path.{refl}
 use Rattle.std.proofs.Common.{◌∙◌, ⊎_elim, eq-or-lt_of_le, le_of_suc-le-suc, le_antisymm, arith}
 use Rattle.base.specs.First.{first, or_else}
 
-module _ (p : ℕ → Bool) where
-  pub first-nothing : (n : ℕ) → ((k : ℕ) → k < n → p k ≡ false) → first n p ≡ None
-  unfolding first
-  first-nothing zero h = refl
-  first-nothing (suc n) h = rw (first-nothing n (λ k l. h k (omega arith)), h n (omega arith))
-
--- questions that agree below n have one answer
-pub first_cong : (p q : ℕ → Bool) (n : ℕ) → ((k : ℕ) → k < n → p k ≡ q k) → first n p ≡ first n q
-unfolding first
-first_cong p q zero h = refl
-first_cong p q (suc n) h = rw (first_cong p q n (λ k l. h k (omega arith)), h n (omega arith))
-
 -- what holds only below m does not hold from m on
 pub not_behind : (b : Bool) (m n : ℕ) → (b ≡ true → n < m) → m ≤ n → b ≡ false
 not_behind true m n h l = absurd (omega (arith, h refl))

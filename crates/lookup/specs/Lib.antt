@@ -1,8 +1,8 @@
 pub mod Gather
 pub mod Lookup
+pub mod Rows
 pub mod View
 pub mod SeenLaws
-pub mod GatherLaws
 pub mod LookupLaws
 pub mod FirstMore
 pub mod TransportLaws

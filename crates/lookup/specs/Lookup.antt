@@ -1,5 +1,5 @@
 -- What each lookup finds. Definitions only. A part is a bank, by its number, or the globals, 255.
-use Rattle.std.specs.Prelude.{ℕ, ◌≤◌, ◌≡◌, ◌⊎◌, Bool, ◌&&◌, List, [], ◌∷◌, map, eqb, leb, ltb, length, get_or, take, None, Option, Some}
+use Rattle.std.specs.Prelude.{ℕ, ◌≤◌, ◌≡◌, ◌⊎◌, Bool, ◌&&◌, List, [], ◌∷◌, eqb, leb, ltb, length, get_or, None, Option, Some}
 use Rattle.std.specs.Bool.{beq}
 use Rattle.base.specs.Range.{all, count, every}
 use Rattle.base.specs.First.{first, until, or_else}
@@ -9,7 +9,6 @@ use Rattle.profile.specs.Profile.{records, byte_at, half_at, double_at, is_kind,
 use Rattle.lookup.specs.declared.Destination.{Destination}
 use Rattle.lookup.specs.declared.Command.{Command}
 use Rattle.lookup.specs.declared.Entry.{Entry}
-use Rattle.lookup.specs.declared.Drivers.{Drivers}
 use Rattle.lookup.specs.Gather.{gather}
 
 -- ── records ──
@@ -180,10 +179,6 @@ unfoldable pub merged : List Entry → List Entry → List Entry
 merged [] own = own
 merged (e ∷ globals) own = merged globals (place e own)
 
--- what is seen of an array of records' numbers: the buttons of the first n
-abbrev pub seen_entries : List ℕ → ℕ → List ℕ → List Entry
-seen_entries s n ks = map (entry_at s) (take n ks)
-
 -- ── default buttons ──
 
 -- the command of the first default button of the driver and the kind, 65535 if it has none
@@ -191,9 +186,6 @@ abbrev pub button_of : List ℕ → ℕ → ℕ → ℕ
 button_of s driver kind = half_of s 4 65535 (entry s 6 driver kind)
 
 -- ── the driver that most faders have ──
-
-abbrev pub seen_drivers : Drivers → List ℕ
-seen_drivers d = take d.count d.list
 
 -- how often x is in the list
 unfoldable pub times : ℕ → List ℕ → ℕ

@@ -15,29 +15,15 @@ pub reach-le : (s : List ℕ) (kind : ℕ) → reach s kind ≤ records s
 unfolding reach
 reach-le s kind = until-le (is_past s kind) (records s)
 
--- a loop that has met no record of a higher kind before k: record k is one, the file ends at k, or the loop goes on behind k
+-- a walk that has met no record of a higher kind before k: record k is one, or the walk goes on behind k
 module _ (s : List ℕ) (kind k : ℕ) (none : first k (is_past s kind) ≡ None) where
   pub reach_here : is_past s kind k ≡ true → k < records s → reach s kind ≡ k
   unfolding reach
   reach_here = until_here (is_past s kind) (records s) k none
 
-  pub reach-end : k ≤ records s → records s ≤ k → reach s kind ≡ k
-  unfolding reach
-  reach-end a b = until-done (is_past s kind) k (records s) a b none
-
   pub reach_on : is_past s kind k ≡ false → k < records s → k < reach s kind
   unfolding reach
   reach_on q l = until_on (is_past s kind) (records s) k l none q
-
--- `find`: the record at which it stands is the one, or there is none
-module _ (s : List ℕ) (kind part number k : ℕ) (none : first k (is_entry s kind part number) ≡ None) where
-  pub entry-hit : k < reach s kind → is_entry s kind part number k ≡ true → Some k ≡ entry s kind part number
-  unfolding entry
-  entry-hit l e = first-hit (is_entry s kind part number) (reach s kind) k none e l
-
-  pub entry-none : reach s kind ≡ k → None ≡ entry s kind part number
-  unfolding entry
-  entry-none e = rw e (sym none)
 
 -- ── what is found ──
 
@@ -58,23 +44,6 @@ entry-is s kind part number k e =
       part_is = eqb-true (byte_at s k 1) part (every-at _ 1 w.1);
       number_is = eqb-true (byte_at s k 2) number (every-at _ 2 w.1);
     }
-
--- the same, as a call of `find` leaves it
-pub entry_in : (s : List ℕ) (kind part number k : ℕ) (f : Option ℕ) → f ≡ entry s kind part number → f ≡ Some k → k < records s
-entry_in s kind part number k f e q = (entry-is s kind part number k (sym e ∙ q)).in_file
-
--- "Globals precede the bank": r is what the globals have, h what the bank has
-pub runs_there : (r f g : Option Command) (c : Command) → r ≡ f → r ≡ Some c → Some c ≡ before f g
-runs_there r f g c e q = rw (← e, q)
-
-pub runs_elsewhere : (r f g h : Option Command) → r ≡ f → r ≡ None → h ≡ g → h ≡ before f g
-runs_elsewhere r f g h e q p = rw (← e, q) p
-
-pub place_there : (r f g : Option ℕ) (k : ℕ) → r ≡ f → r ≡ Some k → Some k ≡ or_else f g
-place_there r f g k e q = rw (← e, q)
-
-pub place_elsewhere : (r f g h : Option ℕ) → r ≡ f → r ≡ None → h ≡ g → h ≡ or_else f g
-place_elsewhere r f g h e q p = rw (← e, q) p
 
 -- ── the encoder in reach ──
 

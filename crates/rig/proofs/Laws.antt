@@ -3,7 +3,7 @@ use Rattle.std.proofs.Common.{None, Option, Some}
 use mathlib.Core.Path.{◌≡◌, refl}
 use mathlib.Core.Logic.{◌⊎◌, inl, inr}
 use mathlib.Core.Bool.{Bool, true, false, not}
-use mathlib.Core.List.{List, [], ◌++◌, append-nil}
+use mathlib.Core.List.{List, [], ◌∷◌, ◌++◌, append-nil}
 use Prim.Native.Nat.{ℕ, zero, suc, ◌+◌, ◌≤◌, ◌<◌}
 use native.Mathlib.Numerals.{add-one}
 use native.Mathlib.Omega.{arith}
@@ -32,8 +32,8 @@ low_driver own (inr h) e = inr (omega arith)
 pub no_driver : (f : Option Destination) (s : List ℕ) → f ≡ None → s ≡ s ++ driver_in f
 no_driver f s e = rw (e, append-nil)
 
-pub its_driver : (f : Option Destination) (d : Destination) (s : List ℕ) (n : ℕ) → f ≡ Some d → n < length s → take (n + 1) (set s n d.driver) ≡ take n s ++ driver_in f
-its_driver f d s n e h = rw (e, add-one, take-suc-set)
+pub its_driver : (f : Option Destination) (d : Destination) (s : List ℕ) → f ≡ Some d → s ++ (d.driver ∷ []) ≡ s ++ driver_in f
+its_driver f d s e = rw e
 
 module _ (h : Here) where
   -- ── the drivers ──

@@ -1,8 +1,8 @@
 // The faders of the current bank and of the globals, and the bank's driver.
-ghost use Rattle.std.specs.Prelude.{◌≡◌, ◌++◌, ◌+◌, ◌≤◌, ◌<◌};
+ghost use Rattle.std.specs.Prelude.{◌≡◌, ◌≤◌};
 ghost use Rattle.profile.specs.Profile.{verdict};
-ghost use Rattle.lookup.specs.Lookup.{seen_drivers, MayBeDriver};
-ghost use Rattle.definition.specs.Rig.{own_fader, destination as destination_of, driver_in, bank_driver, device as device_of, is_of, target_in, first_target};
+ghost use Rattle.lookup.specs.Lookup.{MayBeDriver};
+ghost use Rattle.definition.specs.Rig.{own_fader, destination as destination_of, bank_driver, device as device_of, is_of, target_in, first_target};
 ghost use Rattle.definition.specs.Buttons.{or_absent};
 ghost use Rattle.rig.specs.Seen.{here_in, rig_in};
 
@@ -34,37 +34,19 @@ pub fn destination(profile: &[u8], here: Current, number: u8) -> Option<Destinat
 
 // ── the bank's driver ──
 
-fn with_driver(drivers: Drivers, to: Option<Destination>) -> Drivers
-    requires { drivers.count < 16 }
-    ensures result_value { seen_drivers result ≡ seen_drivers drivers ++ driver_in to }
-    ensures count_bound { result.count ≤ drivers.count + 1 }
-{
-    let Some(d) = to else {
-        return drivers;
-    };
-    let n = drivers.count;
-    let mut t = drivers;
-    t.list[n] = d.driver;
-    t.count = n + 1;
-    t
-}
-
 // The driver a bank's own buttons belong to: the one most of its faders use. 65535 where it has none.
 pub fn bank_driver(profile: &[u8], here: Current) -> u16
     requires { here.strips.count ≤ 8 }
     ensures value { result ≡ bank_driver (here_in profile.now here) }
     ensures may_be_driver { MayBeDriver result }
 {
-    let mut t = Drivers {
-        list: [0; 16],
-        count: 0,
-    };
-    let mut n: u8 = 0;
-    while n < 16 {
-        n += 1;
-        t = with_driver(t, own_fader(profile, here, n));
+    let mut drivers = Drivers::none();
+    for n in 0..16 {
+        if let Some(d) = own_fader(profile, here, n + 1) {
+            drivers.push(d.driver);
+        }
     }
-    lookup::most_common(t)
+    lookup::most_common(drivers.as_slice())
 }
 
 // The driver of this bank's device: its own, else the one most of its faders use.
@@ -104,13 +86,11 @@ pub fn first_target(profile: &[u8], here: Current, driver: u8) -> u16
     requires { here.strips.count ≤ 8 }
     ensures { result ≡ or_absent (first_target (here_in profile.now here) driver 16) }
 {
-    let mut n: u8 = 0;
-    while n < 16 {
-        n += 1;
-        let to = own_fader(profile, here, n);
+    for n in 0..16 {
+        let to = own_fader(profile, here, n + 1);
         if is_of(to, driver) {
             return target_of(to);
         }
     }
-    65535
+    lookup::ABSENT
 }

@@ -16,7 +16,6 @@ use Rattle.protocol.specs.Protocol.{transport_note}
 use Rattle.protocol.specs.declared.Out.TheVariants.{Led}
 use Rattle.lookup.specs.declared.Command.{Command}
 use Rattle.lookup.specs.declared.Entry.{Entry}
-use Rattle.lookup.specs.Lookup.{entry_at, seen_entries}
 use Rattle.lookup.specs.SeenLaws.{within, found, not_found, behind, kth}
 use Rattle.drivers.specs.Talk.{Talk, Got, got, next, send, playing_of}
 use Rattle.definition.specs.Lamps.{Player, is_player, met, meet_if, lamp_for, push_bound}
@@ -111,15 +110,8 @@ pub lit-none : (es : List Entry) (t : Talk) → got [] t ≡ lit_up_to es 0 t
 unfolding lit_up_to
 lit-none es t = refl
 
--- the buttons of the first n records of an array, one more lit
-module _ (s ks : List ℕ) (n : ℕ) (l : n ≤ length ks) where
-  pub how_many : length (seen_entries s n ks) ≡ n
-  how_many = length-map (take n ks) (entry_at s) ∙ length-take-le n ks l
-
-  ith : (i : ℕ) → i < n → get_or (seen_entries s n ks) i no_entry ≡ entry_at s (get_or ks i 0)
-  ith i h = laws.other_none (seen_entries s n ks) i no_entry (entry_at s 0) (omega (arith, how_many)) ∙ kth (entry_at s) ks n i h
-
-  pub lit_next : (i : ℕ) (t u : Talk) (known : List Player) (r : Got (List Player)) (e : Entry) → i < n → e ≡ entry_at s (get_or ks i 0) →
-      got known u ≡ lit_up_to (seen_entries s n ks) i t → r ≡ lamp_for (transport_note e.kind) e.command known u → r ≡ lit_up_to (seen_entries s n ks) (i + 1) t
-  unfolding lit_up_to next
-  lit_next i t u known r e h b q m = rw (add-one, ← q, ith i h) (m ∙ ap (λ (x : Entry). lamp_for (transport_note x.kind) x.command known u) b)
+-- one more button lit
+pub lit_next : (es : List Entry) (i : ℕ) (t u : Talk) (known : List Player) (r : Got (List Player)) → got known u ≡ lit_up_to es i t →
+    r ≡ lamp_for (transport_note (get_or es i no_entry).kind) (get_or es i no_entry).command known u → r ≡ lit_up_to es (i + 1) t
+unfolding lit_up_to next
+lit_next es i t u known r q m = rw (add-one, ← q) m

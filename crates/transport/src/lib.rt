@@ -119,14 +119,11 @@ pub fn push_transport(
     requires { verdict profile.now ≡ 0 }
     ensures { shown answers.now result calls.new messages.new ≡ push_bound (merged (transports_of profile.now 255) (transports_of profile.now bank)) [] (shown answers.now io calls.old messages.old) }
 {
-    let mut bound = [0u16; 32];
-    let n = lookup::transports(profile, bank, &mut bound);
+    let bound = lookup::transports(profile, bank);
     let mut known = [0u32; 32];
     let mut there: usize = 0;
     let mut w = io;
-    let mut i: usize = 0;
-    while i < n {
-        let e = lookup::entry_at(profile, bound[i]);
+    for e in bound.as_slice() {
         let c = e.command;
         let mut k: usize = 0;
         'players: while k < there {
@@ -136,11 +133,9 @@ pub fn push_transport(
             }
             k += 1;
         }
-        let m = push_bound(answers, calls, messages, w, &mut known, there, k, e);
-        let u = m.io;
-        w = u;
+        let m = push_bound(answers, calls, messages, w, &mut known, there, k, *e);
+        w = m.io;
         there = m.count;
-        i += 1;
     }
     w
 }

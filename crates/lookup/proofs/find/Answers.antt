@@ -1,25 +1,17 @@
 -- `lookup::find` meets its contract. Assumes nothing.
-use mathlib.Core.Path.{sym, ◌∙◌}
-use native.Mathlib.Omega.{arith}
-use borrow.Author.Rules.{rules}
-use Rattle.base.specs.FirstLaws.{first-none, first_more}
-use Rattle.lookup.specs.LookupLaws.{reach_here, reach-end, reach_on, entry-hit, entry-none}
+use Rattle.std.proofs.Common.{rules, tests, ◌∙◌}
+use Rattle.std.proofs.lemmas.Iterator.Consumers.{YieldsList-from_first}
+use Rattle.std.proofs.lemmas.Iterator.Search.{find_from_yields_List}
+use Rattle.lookup.specs.Lookup.{entry, is_entry, reach}
+use Rattle.lookup.specs.Rows.{row_of}
+use Rattle.lookup.proofs.Rows.{find_rows, found}
 use Rattle.lookup.proofs.find.Goals as goal
 
-pub loop-k-init : goal.loop-k-init
-loop-k-init c = (search rules, first-none _, first-none _)
-
-pub returns-then-is_past : goal.returns-then-is_past
-returns-then-is_past c = let at = c in
-    entry-none _ _ _ _ at.loop-k.k at.loop-k.invariant.2 (reach_here _ _ _ at.loop-k.invariant.1 (sym c.is_past.ensures ∙ c.if-is_past.true) (omega arith))
-
-pub returns-then-is_entry : goal.returns-then-is_entry
-returns-then-is_entry c = let at = c in
-    entry-hit _ _ _ _ at.loop-k.k at.loop-k.invariant.2 (reach_on _ _ _ at.loop-k.invariant.1 (sym c.is_past.ensures ∙ c.if-is_past.false) (omega arith)) (sym c.is_entry.ensures ∙ c.if-is_entry.true)
-
-pub loop-k-preserved : goal.loop-k-preserved
-loop-k-preserved c = let at = c in
-    (search rules, first_more _ _ at.loop-k.invariant.1 (sym c.is_past.ensures ∙ c.if-is_past.false), first_more _ _ at.loop-k.invariant.2 (sym c.is_entry.ensures ∙ c.if-is_entry.false))
-
 pub returns : goal.returns
-returns c = entry-none _ _ _ _ c.loop-k.k c.loop-k.invariant.2 (reach-end _ _ _ c.loop-k.invariant.1 (omega arith) (omega arith))
+unfolding entry
+returns c =
+    let a = c.args in
+    let w = found a.profile.now c.find.result _
+    (find_from_yields_List _ _ _ c.find.result c.find.ensures.ran (YieldsList-from_first row_of (λ left. left) _ c.up_to.ensures) (λ x b q k. search (rules, tests))
+    ∙ find_rows a.profile.now (λ r. is_entry r.profile a.kind a.part a.number r.k) (reach a.profile.now a.kind)) in
+    record { place = w.0; in_profile = w.1 }

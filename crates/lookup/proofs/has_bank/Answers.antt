@@ -1,40 +1,31 @@
 -- `lookup::has_bank` meets its contract. Assumes nothing.
-use Prim.Native.Nat.{ℕ, ◌≤◌, ◌<◌}
-use mathlib.Core.Path.{◌≡◌, sym}
-use mathlib.Core.Bool.{true, false}
-use mathlib.Core.List.{List}
-use native.Mathlib.Omega.{arith}
-use lib.Dec.{ltb}
-use borrow.Author.Rules.{rules}
-use borrow.Author.Tests.{lt-ltb, le-ltb}
-use Rattle.base.specs.RangeLaws.{count-done}
-use Rattle.profile.specs.Profile.{records, is_kind, kind_count, bank_count}
-use Rattle.profile.specs.RangeMore.{count_mono}
-use Rattle.lookup.specs.GatherLaws.{Walked, walked_none, walked_on}
+use Rattle.std.specs.Prelude.{◌≡◌, ℕ, Bool, true, false, List, ltb, length, filter, refl}
+use Rattle.std.specs.List.{slice_get, range_with_len}
+use Rattle.std.specs.Option.{is_some}
+use Rattle.std.proofs.Common.{rules, tests, arith, sym, ap, ◌∙◌, ltb-true, ltb-false}
+use Rattle.std.proofs.lemmas.Iterator.{YieldsList-from_range}
+use Rattle.std.proofs.lemmas.Iterator.Consumers.{YieldsList-from_filter, nth_from_yields_List}
+use Rattle.std.proofs.lemmas.List.Sums.{length-filter}
+use Rattle.std.proofs.lemmas.Option.{slice_get-get_or, slice_get_past}
+use Rattle.std.proofs.lemmas.Iterator.Adapters.{option_map_id}
+use Rattle.base.specs.StdLaws.{count_by-range}
+use Rattle.profile.specs.Profile.{records, is_kind, kind_count}
 use Rattle.lookup.proofs.has_bank.Goals as goal
 
--- m banks are among the first k records, and the one that is asked for is one of them
-there : (s : List ℕ) (bank m k : ℕ) → k ≤ records s → Walked (is_kind s 1) m k → bank < m → true ≡ ltb bank (bank_count s)
-unfolding kind_count
-there s bank m k l w h =
-    sym (lt-ltb bank (bank_count s) (omega (arith, w.is, count_mono (is_kind s 1) k (records s) l)))
-
--- m banks are all there are, and it is none of them
-not_there : (s : List ℕ) (bank m k : ℕ) → k ≤ records s → records s ≤ k → Walked (is_kind s 1) m k → m ≤ bank → false ≡ ltb bank (bank_count s)
-unfolding kind_count
-not_there s bank m k l l' w h =
-    sym (le-ltb bank (bank_count s) (omega (arith, w.is, count-done (is_kind s 1) k (records s) l l')))
-
-pub loop-k-init : goal.loop-k-init
-loop-k-init c = (search rules, search rules, walked_none _)
-
-pub returns-then-bank-m : goal.returns-then-bank-m
-returns-then-bank-m c = let at = c in
-    there _ _ _ _ (omega arith) (walked_on _ _ _ _ at.loop-k.invariant.2 (cc (c.one-m.ensures.0, c.byte.ensures))) c.if-bank-m.true
-
-pub loop-k-preserved : goal.loop-k-preserved
-loop-k-preserved c = let at = c in
-    (omega arith, c.if-bank-m.false, walked_on _ _ _ _ at.loop-k.invariant.2 (cc (c.one-m.ensures.0, c.byte.ensures)))
+is_there : (l : List ℕ) (k : ℕ) → is_some (slice_get l k) ≡ ltb k (length l)
+is_there l k = go (ltb k (length l)) refl
+  where
+    go : (b : Bool) → ltb k (length l) ≡ b → is_some (slice_get l k) ≡ b
+    go true e = ap is_some (slice_get-get_or l k 0 (ltb-true _ _ e))
+    go false e = ap is_some (slice_get_past l k (ltb-false _ _ e))
 
 pub returns : goal.returns
-returns c = not_there _ _ _ _ (omega arith) (omega arith) c.loop-k.invariant.2 c.loop-k.invariant.1
+unfolding kind_count
+returns c =
+    let s = c.args.profile.now in
+    let e = nth_from_yields_List c.nth.result _ _ c.nth.ensures.ran
+    (YieldsList-from_filter _ (is_kind s 1) (YieldsList-from_range 0 (records s) (records s) (cc) (omega arith)) c.filter.ensures.closure (λ x b q k. search (rules, tests))) in
+    c.is_some.ensures
+    ∙ ap is_some (sym (option_map_id c.nth.result) ∙ e)
+    ∙ is_there (filter (is_kind s 1) (range_with_len 0 (records s))) c.args.bank
+    ∙ ap (ltb c.args.bank) (length-filter (is_kind s 1) (range_with_len 0 (records s)) ∙ count_by-range (is_kind s 1) (records s))

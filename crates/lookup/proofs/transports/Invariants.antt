@@ -1,17 +1,15 @@
 -- `lookup::transports` meets its contract. Assumes nothing.
-use Rattle.std.proofs.Common.{None}
-use Prim.Native.Nat.{◌≤◌, ◌-◌, ◌+◌}
-use mathlib.Core.Path.{◌≡◌}
-use lib.ListN.{length}
-use Rattle.base.specs.Range.{count}
-use Rattle.base.specs.First.{first}
-use Rattle.lookup.specs.Gather.{gather}
-use Rattle.lookup.specs.Lookup.{is_past, of_part, entry_at, transports_of, merged, seen_entries}
+use Rattle.std.specs.Prelude.{◌≡◌, ◌≤◌, ◌+◌, ◌++◌, map, length}
+use Rattle.lookup.specs.Lookup.{transports_of, merged}
+use Rattle.lookup.proofs.TransportLaws.{button_in}
 use Rattle.lookup.proofs.transports.Given as goal
 
-abbrev pub invariant-loop-k : goal.invariant-loop-k
-invariant-loop-k l =
-    (l.k ≤ l.end) × (first l.k (is_past l.profile 5) ≡ None) × (l.n ≤ 16 + count l.k (of_part l.profile 5 255)) × (seen_entries l.profile l.n l.list ≡ merged (gather l.k (of_part l.profile 5 255) (entry_at l.profile)) (transports_of l.profile l.bank)) × (length l.list ≡ 32)
+-- with those that are still to come the list is the bank's own
+abbrev pub invariant-loop-row : goal.invariant-loop-row
+invariant-loop-row l = l.buttons ++ map button_in l.row-iterator ≡ transports_of l.profile l.bank
 
-abbrev pub decreases-loop-k : goal.decreases-loop-k
-decreases-loop-k l = l.end - l.k
+-- with those that are still to be placed the list is the whole, and each has room
+abbrev pub invariant-loop-row-2 : goal.invariant-loop-row-2
+invariant-loop-row-2 l =
+    (merged (map button_in l.row-iterator) l.buttons ≡ merged (transports_of l.profile 255) (transports_of l.profile l.bank))
+    × (length l.buttons + length l.row-iterator ≤ 32)

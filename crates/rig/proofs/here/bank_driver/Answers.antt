@@ -1,20 +1,27 @@
-use mathlib.Core.Path.{◌≡◌, ap, ◌∙◌}
-use native.Mathlib.Omega.{arith}
+use Rattle.std.proofs.Common.{rules, ◌≡◌, refl, ap, ◌∙◌, arith, ◌++◌, [], ◌∷◌, length, length-append}
 use Rattle.lookup.specs.Lookup.{most_common}
 use Rattle.definition.specs.Rig.{own_drivers, bank_driver}
-use Rattle.rig.proofs.Laws.{no_drivers, one-driver}
-use borrow.Author.Rules.{rules}
+use Rattle.rig.proofs.Laws.{no_drivers, one-driver, no_driver, its_driver}
+use Rattle.rig.proofs.here.bank_driver.Goals.{in-Some, in_default}
 use Rattle.rig.proofs.here.bank_driver.Goals as goal
 
 pub loop-n-init : goal.loop-n-init
-loop-n-init c = (no_drivers _, omega arith, omega arith)
+loop-n-init c = rw c.none-drivers.ensures (no_drivers _, omega arith)
 
 pub loop-n-preserved : goal.loop-n-preserved
-loop-n-preserved c = let at = c.loop-n in
-    (one-driver _ at.n _ _ _ c.own_fader.ensures at.invariant.0 c.with_driver-t.ensures.result_value, search rules, search rules)
+loop-n-preserved c = let at = c.loop-n in elim c.match-own_fader.branch [
+  | in-Some w ↦
+      let more = w.drivers-is ∙ w.push.ensures in
+      (one-driver _ at.n _ _ _ c.own_fader.ensures at.invariant.0 (more ∙ its_driver _ _ at.drivers w.in-Some.is), rw more (omega (arith, length-append at.drivers (w.in-Some.d.driver ∷ []), at.invariant.1)))
+  | in_default w ↦
+      (one-driver _ at.n _ _ _ c.own_fader.ensures at.invariant.0 (w.drivers-is ∙ no_driver _ at.drivers w.in_default.is), rw w.drivers-is (omega (arith, at.invariant.1)))
+]
 
 pub returns : goal.returns
 unfolding bank_driver
 returns c = let at = c.loop-n in
     let e : at.n ≡ 16 = omega arith in
-    record { value = c.most_common.ensures.value ∙ ap most_common (at.invariant.0 ∙ ap (own_drivers _) e); may_be_driver = c.most_common.ensures.may_be_driver }
+    record {
+      value = c.most_common.ensures.value ∙ ap most_common (c.as_slice.ensures ∙ at.invariant.0 ∙ ap (own_drivers _) e);
+      may_be_driver = c.most_common.ensures.may_be_driver;
+    }

@@ -1,5 +1,0 @@
--- `lookup::command_at` meets its contract. Assumes nothing.
-use Rattle.lookup.proofs.command_at.Goals as goal
-
-pub returns : goal.returns
-returns c = cc

@@ -1,5 +1,0 @@
--- `lookup::destination_at` meets its contract. Assumes nothing.
-use Rattle.lookup.proofs.destination_at.Goals as goal
-
-pub returns : goal.returns
-returns c = cc

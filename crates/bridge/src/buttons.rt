@@ -278,7 +278,7 @@ pub fn bank_after(profile: &[u8], bank: u8, b: Button) -> u8
     requires { bank < 16 }
     ensures { result ≡ bank_after profile.now bank b.note }
 {
-    match b.kind() {
+    match b.kind().number() {
         5 | 9 => banks::next_bank(profile, bank, true),
         4 | 8 => banks::next_bank(profile, bank, false),
         3 => selected_by(profile, bank, channel_of(b)),
@@ -313,7 +313,7 @@ fn other_button(
     ensures { PressesThere (other_of profile.now here.bank b.note) profile.now here there lamps hushed (take hushed targets.now) home time (shown answers.now io calls.old messages.old) result (shown answers.now result.io calls.new messages.new) }
 {
     let channel = channel_of(b);
-    match b.kind() {
+    match b.kind().number() {
         0 => rec(
             answers, calls, messages, io, profile, here, lamps, targets, hushed, home, time,
             channel,
@@ -360,7 +360,7 @@ pub fn button(
 {
     // Lent as a slice, the levels are known to have all their places: each of the silenced targets has one.
     let ls: &[f64] = levels;
-    let kind = b.kind();
+    let kind = b.kind().number();
     match kind {
         6 | 7 => page(
             answers,
@@ -426,7 +426,7 @@ pub fn added_by(
     ensures { result ≡ length (added_of profile.now here lamps b.note (take hushed targets.now)) }
 {
     let fader = channel_of(b) + 1;
-    match b.kind() {
+    match b.kind().number() {
         2 => solos::adds::added_by_mute(profile, here, targets, hushed, fader),
         1 => solos::adds::added_by_solo(profile, here, lamps, targets, hushed, fader),
         _ => 0,

@@ -536,7 +536,7 @@ pub fn step(
 ) -> Stepped
     ensures { Delivers (whole profile.now session event.now answers.now (length messages.old) (length calls.old)) profile.now session messages.old calls.old result messages.new calls.new }
 {
-    let why = profile::examine(profile);
+    let why = profile::number(profile::examine(profile));
     if why != 0 {
         return stays(Outcome::Refused(why), session);
     }

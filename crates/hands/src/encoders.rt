@@ -44,7 +44,7 @@ pub fn turn_declined(
     let ks: &[u16] = records;
     let ns: &[i32] = sums;
     let d = lookup::destination_at(profile, k as usize);
-    let i = session::find_turn(profile, records, n, d);
+    let i = session::find_turn(profile, &ks[..n], d).unwrap_or(n);
     if i < n {
         if leaves_range(ns[i], delta) {
             return 12;

@@ -113,7 +113,7 @@ pub fn zelwydro_fresh() -> Session
 pub fn zelwydro_examine(profile: &[u8]) -> u8
     ensures { result ≡ verdict profile.now }
 {
-    profile::examine(profile)
+    profile::number(profile::examine(profile))
 }
 
 // Back to the device and the scenes that were saved.

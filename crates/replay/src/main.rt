@@ -51,7 +51,7 @@ fn byte() -> Got {
     let k = io::read_full(STDIN_FILENO, &mut b);
     Got {
         there: k == 1,
-        n: profile::view::wide(b[0]),
+        n: usize::from(b[0]),
     }
 }
 
@@ -248,7 +248,7 @@ fn one_case(dump: bool) -> bool {
     }
     show::case(id.n);
     let end = p.n;
-    let why = profile::examine(&profile[..end]);
+    let why = profile::number(profile::examine(&profile[..end]));
     if why != 0 {
         show::profile(why);
         return pass_steps(steps.n);

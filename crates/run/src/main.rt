@@ -184,7 +184,7 @@ fn main(rt: HostRuntime) {
     let p = load(&rt, "profile.bin", &mut profile);
     let e = load(&rt, "events.bin", &mut events);
     let a = load(&rt, "answers.bin", &mut answers);
-    let why = profile::examine(&profile[..p]);
+    let why = profile::number(profile::examine(&profile[..p]));
     if why != 0 {
         let mut out = [0u8; 64];
         let n = printing::put_profile(&mut out, why);

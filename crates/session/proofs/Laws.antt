@@ -1,37 +1,31 @@
 -- What the session's functions share: a list that is kept as the first n of an array of `top` places. Assumes nothing.
-use Rattle.std.proofs.Common.{None, Option, Some}
-use mathlib.Core.Path.{◌≡◌, refl, sym, ap, ◌∙◌, subst}
+use Rattle.std.proofs.Common.{None, Some}
+use mathlib.Core.Path.{◌≡◌, refl, sym, ap, ◌∙◌}
 use mathlib.Core.Bool.{Bool, true, false, ◌&&◌}
 use mathlib.Core.List.{List, [], ◌∷◌, ◌++◌, map, map-append, append-nil}
 use Prim.Native.Nat.{ℕ, ◌+◌, ◌≤◌, ◌<◌, min}
 use native.Mathlib.Numerals.{add-one}
 use native.Mathlib.Omega.{arith}
-use lib.Dec.{eqb, ltb, leb}
+use lib.Dec.{eqb, ltb}
 use lib.Ieee.{Float, nan}
 use lib.ListN.{length, get_or, take, set, length-append, length-take, length-set}
 use lib.Seq.{take_all, take-append-le, take-suc-set, take-set-le, length-take-le, lt-length-set, set-get_or, get_or-set_same, get_or-set_other}
 use lib.IntN.{ℤ, pos, ◌+ℤ◌}
-use borrow.Author.Tests.{ltb-true, ltb-false, leb-true, leb-false}
+use borrow.Author.Tests.{ltb-true, ltb-false}
 use Rattle.base.specs.Choice.{pick}
-use Rattle.base.specs.Keyed.{at, any_of, all_of, change, keep, beside}
+use Rattle.base.specs.Keyed.{at, any_of, all_of, keep, beside}
 use Rattle.base.specs.BesideLaws as side
 use Rattle.base.specs.KeyedLaws as laws
 use Rattle.lookup.specs.Lookup.{dest_at}
-use Rattle.session.specs.Session.{Turn, turn_at, turns_up_to, is_encoder, wires_to, is_dest, add_to, first_turn, turn, RoomToTurn, Hushed, hushed_at, hushed_up_to, hushed_level, hush, unhush, has_room, same_target, is_target, other_target, seen_strips, strips_or, is_strip, strip_at, no_strip, same_at}
+use Rattle.session.specs.Session.{Turn, turn_at, turns_up_to, is_encoder, wires_to, is_dest, add_to, first_turn, turn, RoomToTurn, Hushed, hushed_at, hushed_up_to, hushed_level, hush, unhush, has_room, same_target, is_target, other_target}
 use Rattle.session.specs.SessionLaws.{sums_in, sums_long, same_sum}
-use Rattle.session.specs.declared.Strip.{Strip}
-use Rattle.session.specs.declared.Strips.{Strips}
 
 -- what stands past an array's end
 abbrev pub no_hushed : Hushed
 no_hushed = record { target = 0; level = nan }
 
--- ── a change, where the search gave place i ──
+-- ── room for one more, where the search gave place i ──
 module _ {A : Type 0} (f : A → Bool) (d : A) (xs : List A) (n i top : ℕ) (long : length xs ≡ top) (within : n ≤ top) (e : i ≡ at f (take n xs)) where
-  -- it is there: the count stays
-  pub changed : (g : A → A) (y : A) → i < n → (take n (set xs i (g (get_or xs i d))) ≡ change f g y (take n xs)) × (n ≤ top)
-  changed g y h = (laws.change_in f d xs n i e g y (omega arith) h, within)
-
   -- it is not there, so that what says that it has a place says that there is one behind
   pub roomy : n ≤ i → pick (any_of f (take n xs)) true (ltb n top) ≡ true → n < top
   roomy h p = ltb-true n top (rw (laws.not_there f d xs n i e (omega arith) h) at p)
@@ -39,9 +33,6 @@ module _ {A : Type 0} (f : A → Bool) (d : A) (xs : List A) (n i top : ℕ) (lo
   -- the same, said of the list that is seen
   pub seen_roomy : n ≤ i → pick (any_of f (take n xs)) true (ltb (length (take n xs)) top) ≡ true → n < top
   seen_roomy h p = roomy h (rw (length-take-le n xs (omega arith)) at p)
-
-  pub added : (g : A → A) (y : A) → n < top → n ≤ i → (take (n + 1) (set xs n y) ≡ change f g y (take n xs)) × (n + 1 ≤ top)
-  added g y r h = (laws.change_out f d xs n i e g y (omega arith) h, omega arith)
 
 -- ── the first `top` of those that pass, each made into another: k written to ts so far, of the first j of xs ──
 module _ {A B : Type 0} (f : A → Bool) (h : A → B) (d : A) (top : ℕ) (ts : List B) (xs : List A) (k j : ℕ) (long : length ts ≡ top) (within : k ≤ top)
@@ -200,12 +191,6 @@ module _ (target : ℕ) (ts₀ : List ℕ) (ls₀ : List Float) (ts : List ℕ) 
         levels_left = λ i h. s.levels_left i (omega arith);
       }
 
-pub closing_done : (target : ℕ) (ts₀ : List ℕ) (ls₀ : List Float) (ts : List ℕ) (ls : List Float) (k j : ℕ) → Closing target ts₀ ls₀ ts ls k j →
-    (n : ℕ) → j ≤ n → n ≤ j → hushed_up_to k ts ls ≡ unhush target (hushed_up_to n ts₀ ls₀)
-closing_done target ts₀ ls₀ ts ls k j s n h l =
-    let q : j ≡ n = omega arith in
-    subst (λ (m : ℕ). hushed_up_to k ts ls ≡ unhush target (hushed_up_to m ts₀ ls₀)) q s.so_far
-
 -- ── the sums, side by side with the records of their encoders ──
 
 -- what a search among the first n of the records shows of both arrays
@@ -246,26 +231,3 @@ module _ (p ks : List ℕ) (ns : List ℤ) (n k i : ℕ) (delta : ℤ) (lk : len
       let m : n < length ks = omega (arith, (at-end h).1) in
       rw ((at-end h).0, add-one)
       (laws.every_more (is_encoder p) 0 (set ks n k) n (lt-length-set ks n k m) (rw (take-set-le n ks n k (omega arith)) room.encoders) (rw (get_or-set_same ks n k 0 m) room.encoder))
-
--- ── the strips of a bank ──
-abbrev pub looked : ℕ → Strips → Option Strip
-looked number s = strip_at number (strips_or (seen_strips s))
-
--- what a search among the first n of a bank's strips shows of the strip of that number
-module _ (s : Strips) (number n i : ℕ) (long : length s.list ≡ 8) (within : n ≤ 8) (known : take n s.list ≡ strips_or (seen_strips s))
-    (e : i ≡ at (is_strip number) (take n s.list)) where
-  pub strip_there : i < n → looked number s ≡ Some (get_or s.list i no_strip)
-  unfolding strip_at
-  strip_there h = rw (← known) (laws.found (is_strip number) no_strip s.list n i e (omega arith) h)
-
-  pub strip_missing : n ≤ i → looked number s ≡ None
-  unfolding strip_at
-  strip_missing h = rw (← known) (laws.not_found (is_strip number) no_strip s.list n i e (omega arith) h)
-
-  -- where the other list lacks the number
-  pub both_missing : leb n i ≡ same_at None (looked number s)
-  both_missing = go (leb n i) refl
-    where
-      go : (b : Bool) → leb n i ≡ b → b ≡ same_at None (looked number s)
-      go true q = rw (strip_missing (leb-true n i q))
-      go false q = rw (strip_there (leb-false n i q))

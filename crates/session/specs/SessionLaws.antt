@@ -11,7 +11,7 @@ use Rattle.std.proofs.lemmas.Bool.{eqb-false}
 use Rattle.base.specs.Choice.{pick}
 use Rattle.base.specs.Range.{every}
 use Rattle.base.specs.Keyed.{at, any_of, all_of, change, keep, no_twice, beside}
-use Rattle.base.specs.KeyedLaws.{each}
+use Rattle.base.specs.KeyedLaws.{each, other_none}
 use Rattle.base.specs.BesideLaws as side
 use Rattle.base.specs.RangeLaws.{and_left, and_right}
 use Rattle.base.specs.Pigeon.{pigeon, has_room_for, all_so, all-change, once_change, once_keep, left_of_lem, right_of, first_no, rest_no, no_left, no_right}
@@ -152,6 +152,12 @@ pub encoder_in_file : (p ks : List ℕ) (n i : ℕ) → n ≤ length ks → i < 
 encoder_in_file p ks n i l h e =
     let k : ℕ = get_or ks i 0 in
     ltb-true k (records p) (and_left (ltb k (records p)) (is_kind p 3 k) (each (is_encoder p) 0 ks n i l h e))
+
+-- so is each of records that are all encoders'
+pub each_in_file : (p ks : List ℕ) → all_of (is_encoder p) ks ≡ true → (i d : ℕ) → i < length ks → get_or ks i d < records p
+each_in_file p ks e i d h =
+    rw (other_none ks i d 0 h)
+    (encoder_in_file p ks (length ks) i (omega arith) h (rw (take_all (length ks) ks (omega arith)) e))
 
 -- the sums that wait, each beside the record of its encoder
 abbrev pub sums_in : List ℕ → List ℕ → List ℤ → List Turn

@@ -1,5 +1,7 @@
 // The desk: marks, last moves, the line of waiting moves, the encoders' sums.
-ghost use Rattle.std.specs.Prelude.{◌≡◌, true, false, [], ◌+◌, ◌*◌, ◌≤◌, ◌<◌, replicate, take, length, pos};
+#![tactic(auto, unfolding(crate::specs::Session::is_marked, crate::specs::Session::mark_at, crate::specs::Session::no_marks, crate::specs::Session::last_move, crate::specs::Session::moved_to, crate::specs::Session::unmark_bank, crate::specs::Session::unmark_up_to))]
+
+ghost use Rattle.std.specs.Prelude.{◌≡◌, true, false, [], ◌+◌, ◌*◌, ◌≤◌, ◌<◌, replicate, take, length, pos, position};
 ghost use Rattle.base.specs.Keyed.{at, all_of};
 ghost use Rattle.lookup.specs.Lookup.{dest_at};
 ghost use Rattle.float.specs.Leaf.{f0};
@@ -39,10 +41,8 @@ pub fn unmarked(marks: Marks, bank: u8) -> Marks
 {
     let b = bank as usize;
     let mut t = marks;
-    let mut i: usize = 0;
-    while i < 16 {
+    for i in 0..16 {
         t.on[b * 16 + i] = false;
-        i += 1;
     }
     t
 }
@@ -63,11 +63,7 @@ pub fn last_move(moves: Moves, k: usize) -> Option<f64>
     requires { k < 256 }
     ensures { result ≡ last_move k moves }
 {
-    if moves.known[k] {
-        Some(moves.level[k])
-    } else {
-        None
-    }
+    moves.known[k].then_some(moves.level[k])
 }
 
 pub fn moved_to(moves: Moves, k: usize, value: f64) -> Moves
@@ -95,20 +91,11 @@ pub fn no_line() -> Line
     }
 }
 
-// The place of the channel's move among the first n, or n.
-fn find_move(line: Line, n: usize, channel: u8) -> usize
-    requires { n ≤ 16 }
-    ensures { result ≡ at (is_channel channel) (take n line.list) }
+// The place of the channel's move, if one waits.
+fn find_move(waiting: &[Move], channel: u8) -> Option<usize>
+    ensures { result ≡ position (is_channel channel) waiting.now }
 {
-    let mut i: usize = 0;
-    while i < n {
-        let m = line.list[i];
-        if m.channel == channel {
-            return i;
-        }
-        i += 1;
-    }
-    i
+    waiting.iter().position(|m| m.channel == channel)
 }
 
 // A move takes its channel's place in the line, the end if it has none.
@@ -119,18 +106,15 @@ pub fn place_move(line: Line, channel: u8, level: f64) -> Line
     ensures count_bound_2 { result.count ≤ 16 }
 {
     let n = line.count;
-    let i = find_move(line, n, channel);
-    let m = Move {
-        channel: channel,
-        level: level,
-    };
+    let m = Move { channel, level };
     let mut t = line;
-    if i < n {
-        t.list[i] = m;
-        return t;
+    match find_move(&line.list[..n], channel) {
+        Some(i) => t.list[i] = m,
+        None => {
+            t.list[n] = m;
+            t.count = n + 1;
+        }
     }
-    t.list[n] = m;
-    t.count = n + 1;
     t
 }
 
@@ -138,9 +122,7 @@ pub fn emptied_line(line: Line) -> Line
     ensures result_value { seen_line result ≡ [] }
     ensures count_bound { result.count ≤ 16 }
 {
-    let mut t = line;
-    t.count = 0;
-    t
+    Line { count: 0, ..line }
 }
 
 // ── the sums: the first n of two arrays, which are lent. A destination is named by the profile's record of an encoder that is wired to it ──
@@ -155,29 +137,12 @@ pub fn no_turns() -> Turns
     }
 }
 
-// The place of the destination's sum among the first n, or n.
-fn find_in(profile: &[u8], records: &[u16], n: usize, dest: Destination) -> usize
-    requires n_in_bounds { n ≤ length records.now }
-    requires records_value { all_of (is_encoder profile.now) (take n records.now) ≡ true }
-    ensures { result ≡ at (wires_to profile.now dest) (take n records.now) }
+// The place of the destination's sum, if it has one.
+pub fn find_turn(profile: &[u8], records: &[u16], dest: Destination) -> Option<usize>
+    requires { all_of (is_encoder profile.now) records.now ≡ true }
+    ensures { result ≡ position (wires_to profile.now dest) records.now }
 {
-    let mut i: usize = 0;
-    while i < n {
-        let d = lookup::destination_at(profile, records[i] as usize);
-        if lookup::same(d, dest) {
-            return i;
-        }
-        i += 1;
-    }
-    i
-}
-
-pub fn find_turn(profile: &[u8], records: &[u16; 136], n: usize, dest: Destination) -> usize
-    requires n_bound { n ≤ 136 }
-    requires records_value { all_of (is_encoder profile.now) (take n records.now) ≡ true }
-    ensures { result ≡ at (wires_to profile.now dest) (take n records.now) }
-{
-    find_in(profile, records, n, dest)
+    records.iter().position(|k| lookup::same(lookup::destination_at(profile, *k as usize), dest))
 }
 
 // A turn of record k's encoder adds to its destination's sum; the first comes behind. How many sums there are then.
@@ -194,23 +159,22 @@ pub fn turned(
     ensures records_after { all_of (is_encoder profile.now) (take result records.new) ≡ true }
     ensures upper_bound { result ≤ 136 }
 {
-    let ks: &mut [u16] = records;
-    let ns: &mut [i32] = sums;
     let d = lookup::destination_at(profile, k as usize);
-    let i = find_in(profile, ks, n, d);
-    if i < n {
-        ns[i] = ns[i] + delta;
-        return n;
+    match find_turn(profile, &records[..n], d) {
+        Some(i) => {
+            sums[i] += delta;
+            n
+        }
+        None => {
+            records[n] = k;
+            sums[n] = delta;
+            n + 1
+        }
     }
-    ks[i] = k;
-    ns[i] = delta;
-    n + 1
 }
 
 pub fn emptied_turns(turns: Turns) -> Turns
     ensures { result.count ≡ 0 }
 {
-    let mut t = turns;
-    t.count = 0;
-    t
+    Turns { count: 0, ..turns }
 }

@@ -1,7 +1,8 @@
 // The faders of live banks.
-ghost use Rattle.std.specs.Prelude.{◌≡◌, true, false, [], ◌+◌, ◌≤◌, ◌<◌, replicate, take};
+#![tactic(auto, unfolding(crate::specs::Session::strips_at, crate::specs::Session::strips_for, crate::specs::Session::seen_strips, crate::specs::Session::strip_dest, crate::specs::Session::strip_of, crate::specs::Session::same_strip))]
+
+ghost use Rattle.std.specs.Prelude.{◌≡◌, true, false, [], ◌+◌, ◌≤◌, ◌<◌, replicate, find};
 ghost use Rattle.std.specs.Prelude.{Some};
-ghost use Rattle.base.specs.Keyed.{at};
 ghost use Rattle.drivers.specs.Shown.{seen_faders};
 ghost use Rattle.session.specs.Session.{no_strip, no_strips, strips_at, strips_for, seen_strips, strips_or, is_strip, strip_at, strip_dest, found_strip, strip_of, strips_of, on_surface, same_strip, same_at, same_strips as same_strips_of, label_of};
 
@@ -26,10 +27,9 @@ fn no_strip() -> Strip
 fn no_strips() -> Strips
     ensures { result ≡ no_strips }
 {
-    let s = no_strip();
     Strips {
         known: false,
-        list: [s; 8],
+        list: [no_strip(); 8],
         count: 0,
     }
 }
@@ -37,16 +37,16 @@ fn no_strips() -> Strips
 pub fn no_live() -> Live
     ensures { result ≡ record { banks = replicate 16 no_strips } }
 {
-    let s = no_strips();
-    Live { banks: [s; 16] }
+    Live {
+        banks: [no_strips(); 16],
+    }
 }
 
 pub fn strips_at(live: Live, bank: u8) -> Strips
     requires { bank < 16 }
     ensures { result ≡ strips_at bank live }
 {
-    let b = bank as usize;
-    live.banks[b]
+    live.banks[bank as usize]
 }
 
 // The bank's strips become these.
@@ -54,35 +54,27 @@ pub fn strips_for(live: Live, bank: u8, strips: Strips) -> Live
     requires { bank < 16 }
     ensures { result ≡ strips_for bank strips live }
 {
-    let b = bank as usize;
     let mut t = live;
-    t.banks[b] = strips;
+    t.banks[bank as usize] = strips;
     t
 }
 
-// How many strips there are: none while they are not known.
-fn count_of(strips: Strips) -> usize
-    requires { strips.count ≤ 8 }
-    ensures list_value { take result strips.list ≡ strips_or (seen_strips strips) }
-    ensures upper_bound { result ≤ 8 }
+fn numbered(strips: &[Strip], number: u8) -> Option<Strip>
+    ensures { result ≡ find (is_strip number) strips.now }
 {
-    if strips.known { strips.count } else { 0 }
+    strips.iter().copied().find(|s| s.number == number)
 }
 
-// The place of the number's strip, or the count.
-pub fn find_strip(strips: Strips, n: usize, number: u8) -> usize
-    requires { n ≤ 8 }
-    ensures { result ≡ at (is_strip number) (take n strips.list) }
+// The number's strip, if the bank is known to have one.
+pub fn strip_numbered(strips: &Strips, number: u8) -> Option<Strip>
+    requires { strips.now.count ≤ 8 }
+    ensures { result ≡ strip_at number (strips_or (seen_strips strips.now)) }
 {
-    let mut i: usize = 0;
-    while i < n {
-        let s = strips.list[i];
-        if s.number == number {
-            return i;
-        }
-        i += 1;
+    if strips.known {
+        numbered(&strips.list[..strips.count], number)
+    } else {
+        None
     }
-    i
 }
 
 // The driver says nothing of takeover and range: a live fader has both in full.
@@ -106,15 +98,10 @@ pub fn strip_found(strips: Strips, number: u8) -> Option<Destination>
     requires { strips.count ≤ 8 }
     ensures { result ≡ found_strip (strip_at number (strips_or (seen_strips strips))) }
 {
-    let n = count_of(strips);
-    let i = find_strip(strips, n, number);
-    if i < n {
-        let s = strips.list[i];
-        return Some(strip_destination(s));
-    }
-    None
+    strip_numbered(&strips, number).map(strip_destination)
 }
 
+// What the number is wired to is the same. A derived == would compare the numbers too.
 fn same_strip(a: Strip, b: Strip) -> bool
     ensures { result ≡ same_strip a b }
 {
@@ -124,23 +111,15 @@ fn same_strip(a: Strip, b: Strip) -> bool
 }
 
 // The number's strip is the same in both lists, or in neither.
-fn same_at(a: Strips, b: Strips, number: u8) -> bool
-    requires { (a.count ≤ 8) × (b.count ≤ 8) }
-    ensures { result ≡ same_at (strip_at number (strips_or (seen_strips a))) (strip_at number (strips_or (seen_strips b))) }
+fn same_at(a: &Strips, b: &Strips, number: u8) -> bool
+    requires { (a.now.count ≤ 8) × (b.now.count ≤ 8) }
+    ensures { result ≡ same_at (strip_at number (strips_or (seen_strips a.now))) (strip_at number (strips_or (seen_strips b.now))) }
 {
-    let n = count_of(a);
-    let m = count_of(b);
-    let i = find_strip(a, n, number);
-    let j = find_strip(b, m, number);
-    if n <= i {
-        return m <= j;
+    match (strip_numbered(a, number), strip_numbered(b, number)) {
+        (Some(s), Some(t)) => same_strip(s, t),
+        (None, None) => true,
+        _ => false,
     }
-    if m <= j {
-        return false;
-    }
-    let s = a.list[i];
-    let t = b.list[j];
-    same_strip(s, t)
 }
 
 // Two lists are the same if they are so at each number, in whatever order they stand.
@@ -148,14 +127,7 @@ pub fn same_strips(a: Strips, b: Strips) -> bool
     requires { (a.count ≤ 8) × (b.count ≤ 8) }
     ensures { result ≡ same_strips_of (strips_or (seen_strips a)) (strips_or (seen_strips b)) }
 {
-    let mut n: u8 = 0;
-    while n < 8 {
-        if !same_at(a, b, n + 1) {
-            return false;
-        }
-        n += 1;
-    }
-    true
+    (0..8).all(|i| same_at(&a, &b, i + 1))
 }
 
 // A bank whose driver has no faders, or refused to say.
@@ -163,30 +135,27 @@ pub fn no_faders() -> Strips
     ensures result_value { seen_strips result ≡ Some [] }
     ensures count_bound { result.count ≤ 8 }
 {
-    let mut t = no_strips();
-    t.known = true;
-    t
+    Strips {
+        known: true,
+        ..no_strips()
+    }
 }
 
 // The label of a live fader is its target where it has none of its own.
 fn label_of(f: LiveFader) -> u16
     ensures { result ≡ label_of f }
 {
-    if f.label == 0 {
-        return f.target;
-    }
-    f.label
+    if f.label == 0 { f.target } else { f.label }
 }
 
 fn strip_of(driver: u8, f: LiveFader) -> Strip
     ensures { result ≡ strip_of driver f }
 {
-    let label = label_of(f);
     Strip {
         number: f.number,
-        driver: driver,
+        driver,
         target: f.target,
-        label: label,
+        label: label_of(f),
         group: f.group,
         mute: f.mute,
     }
@@ -204,20 +173,12 @@ pub fn handed_over(driver: u8, faders: FaderList) -> Strips
     ensures result_value { seen_strips result ≡ Some (strips_of driver (seen_faders faders)) }
     ensures count_bound { result.count ≤ 8 }
 {
-    let n = faders.count;
     let mut t = no_faders();
-    let mut k: usize = 0;
-    let mut j: usize = 0;
-    while j < n {
-        let f = faders.list[j];
-        j += 1;
-        let takes = on_surface(f) & (k < 8);
-        if takes {
-            let s = strip_of(driver, f);
-            t.list[k] = s;
-            k += 1;
+    for f in &faders.list[..faders.count] {
+        if on_surface(*f) & (t.count < 8) {
+            t.list[t.count] = strip_of(driver, *f);
+            t.count += 1;
         }
     }
-    t.count = k;
     t
 }

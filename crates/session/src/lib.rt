@@ -1,7 +1,7 @@
 #![tactic(auto)]
 
-// What the bridge keeps between two events: the port of `struct Bridge`. Plain fields in groups, by who may change them; no enum, so that the session can
-// cross to C. What stands in a list past its count is free.
+// What the bridge keeps between two events: the port of `struct Bridge`. Plain fields in groups, by who may change them. What stands in a list past its
+// count is free.
 mod desk;
 mod faders;
 mod muting;
@@ -15,10 +15,10 @@ pub use desk::{
     place_move, turned, unmarked,
 };
 pub use faders::{
-    find_strip, handed_over, no_faders, same_strips, strip_destination, strip_found, strips_at,
+    handed_over, no_faders, same_strips, strip_destination, strip_found, strip_numbered, strips_at,
     strips_for,
 };
-pub use muting::{find_target, hush, hushed_level, is_hushed, unhush};
+pub use muting::{hush, hushed_level, is_hushed, unhush};
 pub use shown::{
     flashing, loaded_by, no_flash, none_noted, note_muted, scene_at, scene_to, scene_unknown,
     solo_to, was_muted,
@@ -130,6 +130,8 @@ pub struct Silenced {
 
 // ── all of it ──
 
+// It crosses to C, in memory of one fixed size: so a flag has its value beside it (known and level, on and start), a list its count, and two arrays stand side by
+// side (records and sums, targets and levels), where Option, Vec and a list of pairs would not cross.
 #[repr(C)]
 #[derive(Clone, Copy)]
 pub struct Session {
@@ -150,24 +152,17 @@ pub struct Session {
 pub fn fresh() -> Session
     ensures { result ≡ fresh_session }
 {
-    let live = faders::no_live();
-    let marks = desk::no_marks();
-    let moves = desk::no_moves();
-    let line = desk::no_line();
-    let turns = desk::no_turns();
-    let lamps = shown::no_lamps();
-    let silenced = muting::none_silenced();
     Session {
         bank: 0,
         livedue: true,
         liveat: 0.0,
-        live: live,
-        marks: marks,
-        moves: moves,
-        line: line,
-        turns: turns,
-        lamps: lamps,
-        silenced: silenced,
+        live: faders::no_live(),
+        marks: desk::no_marks(),
+        moves: desk::no_moves(),
+        line: desk::no_line(),
+        turns: desk::no_turns(),
+        lamps: shown::no_lamps(),
+        silenced: muting::none_silenced(),
         opened: [false; 16],
     }
 }

@@ -1,4 +1,6 @@
 // What the lamps show beside levels and mutes: solo, scenes and the flash.
+#![tactic(auto, unfolding(crate::specs::Session::no_flash, crate::specs::Session::none_lit, crate::specs::Session::was_muted, crate::specs::Session::note_muted, crate::specs::Session::none_noted, crate::specs::Session::solo_to, crate::specs::Session::loaded_by, crate::specs::Session::scene_at, crate::specs::Session::scene_to, crate::specs::Session::scene_unknown, crate::specs::Session::flashing))]
+
 ghost use Rattle.std.specs.Prelude.{◌≡◌, true, false, ◌≤◌, ◌<◌};
 ghost use Rattle.session.specs.Session.{no_flash, none_lit, was_muted, note_muted, none_noted, solo_to, loaded_by, scene_at, scene_to, scene_unknown, flashing as flashing_of};
 
@@ -20,14 +22,13 @@ pub fn no_flash() -> Flash
 pub fn no_lamps() -> Lamps
     ensures { result ≡ none_lit }
 {
-    let flash = no_flash();
     Lamps {
         soloed: 0,
         loaded: 0,
         before: [false; 16],
         known: [false; 16],
         scenes: [0; 16],
-        flash: flash,
+        flash: no_flash(),
     }
 }
 
@@ -38,35 +39,35 @@ pub fn was_muted(lamps: Lamps, number: u8) -> bool
     requires { (1 ≤ number) × (number ≤ 16) }
     ensures { result ≡ was_muted number lamps }
 {
-    let i = (number - 1) as usize;
-    lamps.before[i]
+    lamps.before[number as usize - 1]
 }
 
 pub fn note_muted(lamps: Lamps, number: u8, muted: bool) -> Lamps
     requires { (1 ≤ number) × (number ≤ 16) }
     ensures { result ≡ note_muted number muted lamps }
 {
-    let i = (number - 1) as usize;
     let mut t = lamps;
-    t.before[i] = muted;
+    t.before[number as usize - 1] = muted;
     t
 }
 
 pub fn none_noted(lamps: Lamps) -> Lamps
     ensures { result ≡ none_noted lamps }
 {
-    let mut t = lamps;
-    t.before = [false; 16];
-    t
+    Lamps {
+        before: [false; 16],
+        ..lamps
+    }
 }
 
 // The fader is soloed; 0 is none.
 pub fn solo_to(lamps: Lamps, fader: u8) -> Lamps
     ensures { result ≡ solo_to fader lamps }
 {
-    let mut t = lamps;
-    t.soloed = fader;
-    t
+    Lamps {
+        soloed: fader,
+        ..lamps
+    }
 }
 
 // ── scenes ──
@@ -74,9 +75,10 @@ pub fn solo_to(lamps: Lamps, fader: u8) -> Lamps
 pub fn loaded_by(lamps: Lamps, fader: u8) -> Lamps
     ensures { result ≡ loaded_by fader lamps }
 {
-    let mut t = lamps;
-    t.loaded = fader;
-    t
+    Lamps {
+        loaded: fader,
+        ..lamps
+    }
 }
 
 // Where the bank's device is in its scene list, if that is known.
@@ -85,11 +87,7 @@ pub fn scene_at(lamps: Lamps, bank: u8) -> Option<usize>
     ensures { result ≡ scene_at bank lamps }
 {
     let b = bank as usize;
-    if lamps.known[b] {
-        Some(lamps.scenes[b] as usize)
-    } else {
-        None
-    }
+    lamps.known[b].then_some(lamps.scenes[b] as usize)
 }
 
 pub fn scene_to(lamps: Lamps, bank: u8, i: u32) -> Lamps
@@ -107,9 +105,8 @@ pub fn scene_unknown(lamps: Lamps, bank: u8) -> Lamps
     requires { bank < 16 }
     ensures { result ≡ scene_unknown bank lamps }
 {
-    let b = bank as usize;
     let mut t = lamps;
-    t.known[b] = false;
+    t.known[bank as usize] = false;
     t
 }
 
@@ -118,7 +115,5 @@ pub fn scene_unknown(lamps: Lamps, bank: u8) -> Lamps
 pub fn flashing(lamps: Lamps, flash: Flash) -> Lamps
     ensures { result ≡ flashing_of flash lamps }
 {
-    let mut t = lamps;
-    t.flash = flash;
-    t
+    Lamps { flash, ..lamps }
 }

@@ -1,104 +1,100 @@
 -- What the tests of a session's shape share. Assumes nothing.
-use mathlib.Core.Path.{◌≡◌, refl, sym, subst}
-use mathlib.Core.Bool.{Bool, true, false, ◌&&◌}
-use mathlib.Core.List.{List, [], ◌∷◌}
-use Prim.Native.Nat.{ℕ, zero, suc, ◌+◌, ◌≤◌, ◌<◌}
+use mathlib.Core.Path.{◌≡◌, refl, sym, ◌∙◌, ap}
+use mathlib.Core.Bool.{Bool, true, false, ◌&&◌, not}
+use mathlib.Core.List.{List, [], ◌∷◌, ◌++◌}
+use Prim.Native.Nat.{ℕ, zero, suc, ◌≤◌}
 use native.Mathlib.Omega.{arith}
-use native.Mathlib.Numerals.{add-one}
-use lib.Dec.{leb}
 use lib.ListN.{length, take, get_or}
-use lib.Seq.{length-take-le}
-use borrow.Author.Tests.{le-leb, lt-leb}
-use Rattle.base.specs.Range.{every}
-use Rattle.base.specs.Keyed.{at, all_of, no_twice}
-use Rattle.base.specs.KeyedLaws as laws
+use lib.Seq.{length-take-le, take-suc, take_all}
+use lib.Dec.{ltb}
+use borrow.Author.Tests.{le-leb, ltb-true, ltb-false}
+use Rattle.std.specs.Prelude.{cond, position, is_some, Some, None}
+use Rattle.std.specs.List.{list_any}
+use Rattle.base.specs.Choice.{pick}
+use Rattle.base.specs.Range.{all, every}
+use Rattle.base.specs.Keyed.{at, any_of, all_of, no_twice}
+use Rattle.base.specs.KeyedLaws.{once_none, any_yes, any_no}
+use Rattle.base.specs.StdLaws.{list_any-any_of, position-at}
 use Rattle.base.specs.Pigeon.{left_of_lem, right_of}
 use Rattle.base.specs.BesideLaws.{beside-all, beside_once}
 use Rattle.session.specs.Session.{turn_at, is_encoder, same_turn}
-use Rattle.session.specs.declared.Strips.{Strips}
 use Rattle.session.specs.declared.Turns.{Turns}
 use Rattle.definition.specs.Faders.{in_range}
-use Rattle.definition.specs.Shape.{shaped_strips, good_turn, same_wire, shaped_turns}
+use Rattle.definition.specs.Shape.{good_turn, same_wire, shaped_turns}
 
--- what stands past an array's end
-abbrev pub empty_strips : Strips
-empty_strips = record { known = false; list = []; count = 0 }
+any-last : {A : Type 0} (f : A → Bool) (xs : List A) (y : A) → any_of f (xs ++ (y ∷ [])) ≡ pick (any_of f xs) true (f y)
+unfolding any_of
+any-last f [] y = go (f y)
+  where
+    go : (b : Bool) → pick b true false ≡ b
+    go true = refl
+    go false = refl
+any-last f (x ∷ xs) y = go (f x) (any-last f xs y)
+  where
+    go : (b : Bool) → any_of f (xs ++ (y ∷ [])) ≡ pick (any_of f xs) true (f y) → pick b true (any_of f (xs ++ (y ∷ []))) ≡ pick (pick b true (any_of f xs)) true (f y)
+    go true e = refl
+    go false e = e
 
--- a bank that is not known
-pub unknown : (s : Strips) → s.known ≡ false → shaped_strips s ≡ true
-unfolding shaped_strips
-unknown s e = rw e
-
--- a loop that has made every turn says true of the first n
-pub done : {A : Type 0} (f : List A → Bool) (xs : List A) (i n : ℕ) → i ≤ n → n ≤ i → f (take i xs) ≡ true → true ≡ f (take n xs)
-done f xs i n h l e = let q : i ≡ n = omega arith in subst (λ (m : ℕ). true ≡ f (take m xs)) q (sym e)
-
--- of the first n records, which are encoders', the first i are so
-pub first_encoders : (p ks : List ℕ) (i n : ℕ) → i ≤ n → all_of (is_encoder p) (take n ks) ≡ true → all_of (is_encoder p) (take i ks) ≡ true
-unfolding all_of
-first_encoders p [] zero n h e = refl
-first_encoders p [] (suc i) n h e = refl
-first_encoders p (k ∷ ks) zero n h e = refl
-first_encoders p (k ∷ ks) (suc i) zero h e = absurd (omega arith)
-first_encoders p (k ∷ ks) (suc i) (suc n) h e =
-    rw (left_of_lem (is_encoder p k) (all_of (is_encoder p) (take n ks)) e)
-    (first_encoders p ks i n (omega arith) (right_of (is_encoder p k) (all_of (is_encoder p) (take n ks)) e))
-
--- A list of at most top, each of which passes the test and no two of which are the same. The code tests the i-th, then holds it against each before it.
-module _ {A : Type 0} (fit : A → Bool) (same : A → A → Bool) (d : A) (xs : List A) where
-  -- of the first i
-  abbrev pub Fine : ℕ → Type 0
-  Fine i = (all_of fit (take i xs) ≡ true) × (no_twice same (take i xs) ≡ true)
-
-  abbrev same_as : ℕ → A → Bool
-  same_as i y = same y (get_or xs i d)
-
-  -- none of the first j is the same as the i-th
-  abbrev pub New : ℕ → ℕ → Type 0
-  New i j = at (same_as i) (take j xs) ≡ j
-
-  abbrev tested : ℕ → ℕ → Bool
-  tested top n = every (leb n top ∷ all_of fit (take n xs) ∷ no_twice same (take n xs) ∷ [])
-
-  pub fine_none : Fine 0
-  fine_none = (laws.every-none fit d xs, laws.once_none same d xs)
-
-  pub new_none : (i : ℕ) → New i 0
-  new_none i = laws.at_none (same_as i) d xs
-
-  pub new-more : (i j : ℕ) → j < length xs → New i j → same (get_or xs j d) (get_or xs i d) ≡ false → New i (j + 1)
-  new-more i j h e g = rw add-one (laws.at_more (same_as i) d xs j h e g)
-
-  pub fine_more : (i j : ℕ) → i < length xs → i ≤ j → j ≤ i → Fine i → fit (get_or xs i d) ≡ true → New i j → Fine (i + 1)
-  fine_more i j h a b e g k =
-      let l : i ≤ length xs = omega arith in (
-        rw add-one (laws.every_more fit d xs i h e.0 g),
-        rw add-one (laws.once_more same d xs i h e.1 (laws.not_there (same_as i) d xs i j (laws.at_done (same_as i) d xs j i b a k) l a)),
-      )
-
-  pub too_many : (top n : ℕ) → top < n → false ≡ tested top n
-  unfolding every
-  too_many top n h = rw (lt-leb n top h)
-
-  pub unfit : (top n i : ℕ) → n ≤ top → n ≤ length xs → i < n → fit (get_or xs i d) ≡ false → false ≡ tested top n
-  unfolding every
-  unfit top n i t l h g = rw (le-leb n top t, laws.every_stop fit d xs i n h l g)
-
-  pub twice : (top n i j : ℕ) → n ≤ length xs → i < n → j < i → New i j → same (get_or xs j d) (get_or xs i d) ≡ true → false ≡ tested top n
-  unfolding every
-  twice top n i j l h k e g =
-      let m : i ≤ length xs = omega arith in
-      let q : at (same_as i) (take i xs) ≡ j = laws.at-hit (same_as i) d xs j i k m e g in
-      rw (laws.once_stop same d xs i n h l (laws.is_there (same_as i) d xs i j (sym q) m k)) (last_no (leb n top) (all_of fit (take n xs)))
+-- ── none twice: the code holds the i-th against each before it ──
+module _ {A : Type 0} (same : A → A → Bool) (d : A) where
+  once-last : (xs : List A) (y : A) → no_twice same (xs ++ (y ∷ [])) ≡ (no_twice same xs && not (any_of (λ z. same z y) xs))
+  unfolding no_twice any_of
+  once-last [] y = refl
+  once-last (x ∷ xs) y = rw (any-last (same x) xs y, once-last xs y) (go (any_of (same x) xs) (same x y) (no_twice same xs) (any_of (λ z. same z y) xs))
     where
-      last_no : (a b : Bool) → false ≡ (a && (b && false))
-      last_no true true = refl
-      last_no true false = refl
-      last_no false b = refl
+      go : (a b c e : Bool) → pick (pick a true b) false (c && not e) ≡ (pick a false c && not (pick b true e))
+      go true b c e = refl
+      go false true true true = refl
+      go false true true false = refl
+      go false true false e = refl
+      go false false c e = refl
 
-  pub all_fine : (top n i : ℕ) → n ≤ top → i ≤ n → n ≤ i → Fine i → true ≡ tested top n
-  unfolding every
-  all_fine top n i t h l e = rw (le-leb n top t, ← done (all_of fit) xs i n h l e.0, ← done (no_twice same) xs i n h l e.1)
+  -- the i-th is the same as none before it
+  abbrev pub New : List A → ℕ → Bool
+  New xs i = not (list_any (λ z. same z (get_or xs i d)) (take i xs))
+
+  once-up-to : (xs : List A) (n : ℕ) → n ≤ length xs → all n (New xs) ≡ no_twice same (take n xs)
+  unfolding all
+  once-up-to xs zero l = sym (once_none same d xs)
+  once-up-to xs (suc n) l =
+      rw (once-up-to xs n (omega arith), list_any-any_of (λ z. same z (get_or xs n d)) (take n xs), take-suc xs n d (omega arith))
+      (sym (once-last (take n xs) (get_or xs n d)))
+
+  pub each-new : (xs : List A) → all (length xs) (New xs) ≡ no_twice same xs
+  each-new xs = once-up-to xs (length xs) (omega arith) ∙ ap (no_twice same) (take_all (length xs) xs (omega arith))
+
+-- what each passes, each of the first n passes
+pub all-take : {A : Type 0} (f : A → Bool) (xs : List A) (n : ℕ) → all_of f xs ≡ true → all_of f (take n xs) ≡ true
+unfolding all_of
+all-take f [] zero e = refl
+all-take f [] (suc n) e = refl
+all-take f (x ∷ xs) zero e = refl
+all-take f (x ∷ xs) (suc n) e = rw (left_of_lem (f x) (all_of f xs) e) (all-take f xs n (right_of (f x) (all_of f xs) e))
+
+-- a search that finds none
+pub none-found : {A : Type 0} (f : A → Bool) (xs : List A) → not (is_some (position f xs)) ≡ not (list_any f xs)
+none-found f [] = refl
+none-found f (x ∷ xs) = rw (position-at f (x ∷ xs), list_any-any_of f (x ∷ xs)) (go (ltb (at f (x ∷ xs)) (length (x ∷ xs))) refl)
+  where
+    go : (b : Bool) → ltb (at f (x ∷ xs)) (length (x ∷ xs)) ≡ b → not (is_some (cond b (Some (at f (x ∷ xs))) None)) ≡ not (any_of f (x ∷ xs))
+    go true q = rw (any_yes f x (x ∷ xs) (ltb-true _ _ q))
+    go false q = rw (any_no f x (x ∷ xs) (ltb-false _ _ q))
+
+-- ── one test after the other ──
+pub both : {v a b A B : Bool} → a ≡ A → a ≡ true → v ≡ b → b ≡ B → v ≡ (A && B)
+both {A = A} e q r f = let t : A ≡ true = sym e ∙ q in rw t (r ∙ f)
+
+pub neither : {v a A : Bool} (B : Bool) → a ≡ A → a ≡ false → v ≡ a → v ≡ (A && B)
+neither {A = A} B e q r = let t : A ≡ false = sym e ∙ q in rw t (r ∙ q)
+
+pub in-turn : (a b c d e f : Bool) → (((((a && b) && c) && d) && e) && f) ≡ every (a ∷ b ∷ c ∷ d ∷ e ∷ f ∷ [])
+unfolding every
+in-turn false b c d e f = refl
+in-turn true false c d e f = refl
+in-turn true true false d e f = refl
+in-turn true true true false e f = refl
+in-turn true true true true false f = refl
+in-turn true true true true true f = refl
 
 -- the sums, of which the code tests the numbers by themselves and the records by themselves
 pub sums-tested : (p : List ℕ) (t : Turns) (x y : Bool) → length t.records ≡ 136 → length t.sums ≡ 136 → t.count ≤ 136 →

@@ -1,1 +1,2 @@
 pub mod Saved
+pub mod Refusal

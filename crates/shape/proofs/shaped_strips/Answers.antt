@@ -1,68 +1,32 @@
-use mathlib.Core.Path.{◌≡◌}
-use native.Mathlib.Omega.{arith}
-use lib.ListN.{length}
-use borrow.Author.Tests.{not-true, not-false, eq-eqb, ne_eqb}
+use Rattle.std.proofs.Common.{◌≡◌, ◌∙◌, sym, take, true, false}
+use Rattle.std.proofs.lemmas.Bool.{le-leb, lt-leb}
+use Rattle.base.specs.Keyed.{all_of}
 use Rattle.base.specs.Range.{every}
-use Rattle.base.specs.KeyedLaws as laws
-use Rattle.session.specs.Session.{good_strip, same_number, no_strip}
+use Rattle.base.specs.StdLaws.{list_all-all_of}
+use Rattle.session.specs.Session.{good_strip}
 use Rattle.definition.specs.Shape.{shaped_strips}
-use Rattle.shape.proofs.Laws.{fine_none, new_none, new-more, fine_more, too_many, unfit, twice, all_fine}
-use borrow.Author.Rules.{rules}
 use Rattle.shape.proofs.shaped_strips.Goals as goal
 
 pub returns-then-not-strips : goal.returns-then-not-strips
 unfolding shaped_strips
-returns-then-not-strips c = rw c.if-not-strips.true-raw
+returns-then-not-strips c = rw c.if-not-strips.true
 
-pub returns-then-n-gt8 : goal.returns-then-n-gt8
-unfolding shaped_strips
-returns-then-n-gt8 c = rw c.if-not-strips.false-raw (too_many good_strip same_number no_strip _ _ _ c.if-n-gt8.true)
-
-pub loop-i-init : goal.loop-i-init
-loop-i-init c = (search rules, fine_none good_strip same_number no_strip c.args.strips.list)
-
-pub returns-then-not-fits : goal.returns-then-not-fits
+pub returns-then-strips-gt8 : goal.returns-then-strips-gt8
 unfolding shaped_strips every
-returns-then-not-fits c =
-    let s = c.args.strips in
-    let p = c.loop-i in
-    let l : length s.list ≡ 8 = search laws.long in
-    rw c.if-not-strips.false-raw
-    (unfit good_strip same_number no_strip s.list 8 s.count p.i (omega arith) (omega arith) (omega arith) (not-true _ c.if-not-fits.true-raw))
+returns-then-strips-gt8 c = rw (c.if-not-strips.false, lt-leb _ _ c.if-strips-gt8.true)
 
-pub loop-j-init : goal.loop-j-init
-loop-j-init c = (search rules, new_none good_strip same_number no_strip c.args.strips.list c.loop-i.i)
+pub returns-then-good_strips : goal.returns-then-good_strips
+unfolding shaped_strips every
+returns-then-good_strips c =
+    let s = c.args.strips.now in
+    let l = take s.count s.list in
+    let e : all_of good_strip l ≡ true = sym (list_all-all_of good_strip l) ∙ sym c.good_strips.ensures ∙ c.if-good_strips.true in
+    rw (c.if-not-strips.false, le-leb _ _ c.if-strips-gt8.false, e) c.numbers_once.ensures
 
-pub returns-then-o-s : goal.returns-then-o-s
-unfolding shaped_strips
-returns-then-o-s c =
-    let s = c.args.strips in
-    let p = c.loop-i in
-    let q = c.loop-j in
-    let l : length s.list ≡ 8 = search laws.long in
-    rw c.if-not-strips.false-raw
-    (twice good_strip same_number no_strip s.list 8 s.count p.i q.j (omega arith) (omega arith) (omega arith) q.invariant.1 (eq-eqb _ _ c.if-o-s.true))
-
-pub loop-j-preserved : goal.loop-j-preserved
-loop-j-preserved c =
-    let s = c.args.strips in
-    let p = c.loop-i in
-    let q = c.loop-j in
-    let l : length s.list ≡ 8 = search laws.long in
-    (omega arith, new-more good_strip same_number no_strip s.list p.i q.j (omega arith) q.invariant.1 (ne_eqb _ _ c.if-o-s.false))
-
-pub loop-i-preserved : goal.loop-i-preserved
-unfolding every
-loop-i-preserved c =
-    let s = c.args.strips in
-    let p = c.loop-i in
-    let q = c.loop-j in
-    let l : length s.list ≡ 8 = search laws.long in
-    (omega arith, fine_more good_strip same_number no_strip s.list p.i q.j (omega arith) (omega arith) (omega arith) p.invariant.1 (not-false _ c.if-not-fits.false-raw) q.invariant.1)
-
-pub returns : goal.returns
-unfolding shaped_strips
-returns c =
-    let s = c.args.strips in
-    let p = c.loop-i in
-    rw c.if-not-strips.false-raw (all_fine good_strip same_number no_strip s.list 8 s.count p.i (omega arith) (omega arith) (omega arith) p.invariant.1)
+pub returns-else-good_strips : goal.returns-else-good_strips
+unfolding shaped_strips every
+returns-else-good_strips c =
+    let s = c.args.strips.now in
+    let l = take s.count s.list in
+    let e : all_of good_strip l ≡ false = sym (list_all-all_of good_strip l) ∙ sym c.good_strips.ensures ∙ c.if-good_strips.false in
+    rw (c.if-not-strips.false, le-leb _ _ c.if-strips-gt8.false, e) c.if-good_strips.false

@@ -1,84 +1,54 @@
-use mathlib.Core.Path.{◌≡◌, ap, ◌∙◌}
-use Prim.Native.Nat.{ℕ, ◌<◌}
-use mathlib.Core.List.{List}
-use Rattle.lookup.specs.declared.Destination.{Destination}
-use lib.ListN.{get_or, take}
-use native.Mathlib.Omega.{arith}
-use borrow.Author.Tests.{ltb-true}
-use Rattle.base.specs.Keyed.{at}
-use Rattle.base.specs.RangeLaws.{and_left}
-use Rattle.lookup.specs.Lookup.{dest_at}
-use Rattle.session.specs.Session.{wires_to}
-use Rattle.session.proofs.Laws.{sum_there, at-end, sum_behind, encoders_behind}
-use mir.Syntax.{w32}
+use Rattle.std.proofs.Common.{◌≡◌, ◌∙◌, ◌<◌, ◌+ℤ◌, ap, sym, take, length, position, None, Option, ℕ, ℤ, List, arith, get_or, pos, w32}
+use Rattle.std.proofs.Common.{rules}
 use mir.ValLaws.{to_z-of_z}
-use lib.IntN.{pos, ◌+ℤ◌}
-use borrow.Author.Rules.{rules}
+use Rattle.base.specs.Keyed.{at}
+use Rattle.lookup.specs.Lookup.{dest_at}
+use Rattle.lookup.specs.declared.Destination.{Destination}
+use Rattle.session.specs.Session.{wires_to, RoomToTurn}
+use Rattle.session.specs.SearchLaws.{place-in, no-place-in}
+use Rattle.session.proofs.Laws.{sum_there, at-end, sum_behind, encoders_behind}
 use Rattle.session.proofs.desk.turned.Goals as goal
 
-pub destination_at-d-requires : goal.destination_at-d-requires
-destination_at-d-requires c = ltb-true _ _ (and_left _ _ c.requires.encoder)
+-- the search, said of the record's destination
+told : (p ks : List ℕ) (k : ℕ) (d : Destination) (r s : Option ℕ) → d ≡ dest_at p k → r ≡ position (wires_to p d) ks → r ≡ s → position (wires_to p (dest_at p k)) ks ≡ s
+told p ks k d r s e f g = ap (λ z. position (wires_to p z) ks) (sym e) ∙ sym f ∙ g
 
-pub overflow_add-ns : goal.overflow_add-ns
-overflow_add-ns c =
-    let b = c in
-    let f = c.find_in-i in
-    let v = get_or b.args.sums.now f.result (pos 0) in
-    rw (to_z-of_z w32 v (record { sfits = c.ns-then-i-n-1.given }), to_z-of_z w32 b.args.delta b.ranges.delta) (b.requires.sums f.result c.if-i-n.true)
+-- where the destination has no sum, there is a place behind the others
+free : (p ks : List ℕ) (ns : List ℤ) (n k : ℕ) (delta : ℤ) (d : Destination) (r : Option ℕ) → length ks ≡ 136 → length ns ≡ 136 → RoomToTurn p ks ns n k delta →
+    d ≡ dest_at p k → r ≡ position (wires_to p d) (take n ks) → r ≡ None → (n ≡ at (wires_to p (dest_at p k)) (take n ks)) × (n < 136)
+free p ks ns n k delta d r lk ln room e f g =
+    let w = no-place-in (wires_to p (dest_at p k)) ks n (omega (arith, room.count)) (told p (take n ks) k d r None e f g) in
+    (w, (at-end p ks ns n k n delta lk ln room w (omega arith)).1)
 
--- what the search among the records shows
-place : (profile records : List ℕ) (n k i : ℕ) (d : Destination) → d ≡ dest_at profile k → i ≡ at (wires_to profile d) (take n records) →
-    i ≡ at (wires_to profile (dest_at profile k)) (take n records)
-place profile records n k i d e f = f ∙ ap (λ d. at (wires_to profile d) (take n records)) e
+pub bounds-records-n : goal.bounds-records-n
+bounds-records-n c = (free _ _ _ _ _ _ _ _ c.told-records c.told-sums c.requires c.destination_at-d.ensures c.find_turn.ensures c.in-None.is).1
 
-pub returns-then-i-n : goal.returns-then-i-n
-returns-then-i-n c =
-    let b = c in
-    let f = c.find_in-i in
-    let w : c.find_in-i.result ≡ at (wires_to c.args.profile.now (dest_at c.args.profile.now c.args.k)) (take c.args.n c.args.records.now) = place c.args.profile.now c.args.records.now c.args.n c.args.k _ _ c.destination_at-d.ensures c.find_in-i.ensures in
-    let v = get_or b.args.sums.now f.result (pos 0) in
-    rw (
-      to_z-of_z w32 v (record { sfits = c.ns-then-i-n-1.given }),
-      to_z-of_z w32 b.args.delta b.ranges.delta,
-      to_z-of_z w32 (v +ℤ b.args.delta) (b.requires.sums f.result c.if-i-n.true),
-    ) (record {
-      sums_after = sum_there b.args.profile.now b.args.records.now b.args.sums.now b.args.n b.args.k f.result b.args.delta c.ks-1.given.0.1 c.ns-1.given.0.1 b.requires w c.if-i-n.true;
-      records_after = b.requires.encoders;
-      upper_bound = b.requires.count;
-    })
+pub bounds-sums-n : goal.bounds-sums-n
+bounds-sums-n c = (free _ _ _ _ _ _ _ _ c.told-records c.told-sums c.requires c.destination_at-d.ensures c.find_turn.ensures c.in-None.is).1
 
-pub offset_bounds-ks-i : goal.offset_bounds-ks-i
-offset_bounds-ks-i c =
-    let w : c.find_in-i.result ≡ at (wires_to c.args.profile.now (dest_at c.args.profile.now c.args.k)) (take c.args.n c.args.records.now) = place c.args.profile.now c.args.records.now c.args.n c.args.k _ _ c.destination_at-d.ensures c.find_in-i.ensures in
-    let inside : (c.find_in-i.result ≡ c.args.n) × (c.args.n < 136) = at-end c.args.profile.now c.args.records.now c.args.sums.now c.args.n c.args.k c.find_in-i.result c.args.delta c.ks-1.given.0.1 c.ns-1.given.0.1 c.requires w c.if-i-n.false in
-    search rules
+pub returns-in-Some-clause-sums_after : goal.returns-in-Some-clause-sums_after
+returns-in-Some-clause-sums_after c =
+    let p = c.args.profile.now in
+    let ks = c.args.records.now in
+    let ns = c.args.sums.now in
+    let w = place-in (wires_to p (dest_at p c.args.k)) ks c.args.n c.in-Some.i (omega arith)
+    (told p _ c.args.k _ _ _ c.destination_at-d.ensures c.find_turn.ensures c.in-Some.is) in
+    let v = get_or ns c.in-Some.i (pos 0) in
+    rw (to_z-of_z w32 v (search rules), to_z-of_z w32 c.args.delta c.ranges.delta, to_z-of_z w32 (v +ℤ c.args.delta) (c.requires.sums c.in-Some.i w.1))
+    (sum_there p ks ns c.args.n c.args.k c.in-Some.i c.args.delta c.told-records c.told-sums c.requires w.0 w.1)
 
-pub bounds-ks-i : goal.bounds-ks-i
-bounds-ks-i c =
-    let w : c.find_in-i.result ≡ at (wires_to c.args.profile.now (dest_at c.args.profile.now c.args.k)) (take c.args.n c.args.records.now) = place c.args.profile.now c.args.records.now c.args.n c.args.k _ _ c.destination_at-d.ensures c.find_in-i.ensures in
-    let inside : (c.find_in-i.result ≡ c.args.n) × (c.args.n < 136) = at-end c.args.profile.now c.args.records.now c.args.sums.now c.args.n c.args.k c.find_in-i.result c.args.delta c.ks-1.given.0.1 c.ns-1.given.0.1 c.requires w c.if-i-n.false in
-    search rules
+pub returns-in-None-clause-sums_after : goal.returns-in-None-clause-sums_after
+returns-in-None-clause-sums_after c =
+    let w = free _ _ _ _ _ _ _ _ c.told-records c.told-sums c.requires c.destination_at-d.ensures c.find_turn.ensures c.in-None.is in
+    rw (to_z-of_z w32 c.args.delta c.ranges.delta)
+    (sum_behind c.args.profile.now c.args.records.now c.args.sums.now c.args.n c.args.k c.args.n c.args.delta c.told-records c.told-sums c.requires w.0 (omega arith))
 
-pub offset_bounds-ns-i-2 : goal.offset_bounds-ns-i-2
-offset_bounds-ns-i-2 c =
-    let w : c.find_in-i.result ≡ at (wires_to c.args.profile.now (dest_at c.args.profile.now c.args.k)) (take c.args.n c.args.records.now) = place c.args.profile.now c.args.records.now c.args.n c.args.k _ _ c.destination_at-d.ensures c.find_in-i.ensures in
-    let inside : (c.find_in-i.result ≡ c.args.n) × (c.args.n < 136) = at-end c.args.profile.now c.args.records.now c.args.sums.now c.args.n c.args.k c.find_in-i.result c.args.delta c.ks-1.given.0.1 c.ns-1.given.0.1 c.requires w c.if-i-n.false in
-    search rules
+pub returns-in-None-clause-records_after : goal.returns-in-None-clause-records_after
+returns-in-None-clause-records_after c =
+    let w = free _ _ _ _ _ _ _ _ c.told-records c.told-sums c.requires c.destination_at-d.ensures c.find_turn.ensures c.in-None.is in
+    encoders_behind c.args.profile.now c.args.records.now c.args.sums.now c.args.n c.args.k c.args.n c.args.delta c.told-records c.told-sums c.requires w.0 (omega arith)
 
-pub bounds-ns-i-2 : goal.bounds-ns-i-2
-bounds-ns-i-2 c =
-    let w : c.find_in-i.result ≡ at (wires_to c.args.profile.now (dest_at c.args.profile.now c.args.k)) (take c.args.n c.args.records.now) = place c.args.profile.now c.args.records.now c.args.n c.args.k _ _ c.destination_at-d.ensures c.find_in-i.ensures in
-    let inside : (c.find_in-i.result ≡ c.args.n) × (c.args.n < 136) = at-end c.args.profile.now c.args.records.now c.args.sums.now c.args.n c.args.k c.find_in-i.result c.args.delta c.ks-1.given.0.1 c.ns-1.given.0.1 c.requires w c.if-i-n.false in
-    search rules
-
-pub returns : goal.returns
-returns c =
-    let b = c in
-    let f = c.find_in-i in
-    let w : c.find_in-i.result ≡ at (wires_to c.args.profile.now (dest_at c.args.profile.now c.args.k)) (take c.args.n c.args.records.now) = place c.args.profile.now c.args.records.now c.args.n c.args.k _ _ c.destination_at-d.ensures c.find_in-i.ensures in
-    let inside : (c.find_in-i.result ≡ c.args.n) × (c.args.n < 136) = at-end c.args.profile.now c.args.records.now c.args.sums.now c.args.n c.args.k c.find_in-i.result c.args.delta c.ks-1.given.0.1 c.ns-1.given.0.1 c.requires w c.if-i-n.false in
-    rw (to_z-of_z w32 b.args.delta b.ranges.delta) (record {
-      sums_after = sum_behind b.args.profile.now b.args.records.now b.args.sums.now b.args.n b.args.k f.result b.args.delta c.ks-1.given.0.1 c.ns-1.given.0.1 b.requires w c.if-i-n.false;
-      records_after = encoders_behind b.args.profile.now b.args.records.now b.args.sums.now b.args.n b.args.k f.result b.args.delta c.ks-1.given.0.1 c.ns-1.given.0.1 b.requires w c.if-i-n.false;
-      upper_bound = omega arith;
-    })
+pub returns-in-None-clause-upper_bound : goal.returns-in-None-clause-upper_bound
+returns-in-None-clause-upper_bound c =
+    let w = free _ _ _ _ _ _ _ _ c.told-records c.told-sums c.requires c.destination_at-d.ensures c.find_turn.ensures c.in-None.is in
+    omega (arith, w.1)

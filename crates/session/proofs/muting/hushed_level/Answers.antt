@@ -1,24 +1,17 @@
-use mathlib.Core.Path.{◌≡◌, sym}
-use lib.ListN.{length}
+use Rattle.std.proofs.Common.{◌∙◌, sym, arith}
+use Rattle.session.specs.SearchLaws.{place-in, no-place-in}
+use Rattle.session.specs.Session.{same_target}
 use Rattle.session.proofs.Laws.{level_there, level_missing}
 use Rattle.session.proofs.muting.hushed_level.Goals as goal
 
-pub returns-then-i-n : goal.returns-then-i-n
-returns-then-i-n c =
-    let b = c in
-    let f = c.find_in-i in
-    let ts = b.args.targets.now in
-    let ls = b.args.levels.now in
-    let lt : length ts ≡ 256 = c.find_in-arg-1.given in
-    let ll : length ls ≡ 256 = c.ls-1.given in
-    sym (level_there b.args.target ts ls b.args.n f.result lt ll b.requires f.ensures c.if-i-n.true)
-
 pub returns : goal.returns
 returns c =
-    let b = c in
-    let f = c.find_in-i in
-    let ts = b.args.targets.now in
-    let ls = b.args.levels.now in
-    let lt : length ts ≡ 256 = c.find_in-arg-1.given in
-    let ll : length ls ≡ 256 = c.ls-1.given in
-    sym (level_missing b.args.target ts ls b.args.n f.result lt ll b.requires f.ensures c.if-i-n.false)
+    let a = c.args in
+    let w = place-in (same_target a.target) a.targets.now a.n c.in_ok-i.i (omega arith) (sym c.find_target.ensures ∙ c.in_ok-i.was) in
+    sym (level_there a.target a.targets.now a.levels.now a.n c.in_ok-i.i c.told-targets c.told-levels c.requires w.0 w.1)
+
+pub returns-in_err-i : goal.returns-in_err-i
+returns-in_err-i c =
+    let a = c.args in
+    let w = no-place-in (same_target a.target) a.targets.now a.n (omega arith) (sym c.find_target.ensures ∙ c.in_err-i.was) in
+    c.from_residual.ensures ∙ sym (level_missing a.target a.targets.now a.levels.now a.n a.n c.told-targets c.told-levels c.requires w (omega arith))

@@ -1,21 +1,21 @@
 -- What std's words on lists, which an iterator's methods ensure, are in the words of Keyed, Range and First: of a list, of the first n of a list, and of
 -- the numbers below n, which std lists as `range_with_len 0 n`. Assumes nothing.
-use Rattle.std.specs.Prelude.{◌≡◌, Bool, true, false, cond, not, get_or, take, filter, find, position, count_by, unwrap_or, ltb, None, Some, Option, ◌&&◌, ◌||◌}
+use Rattle.std.specs.Prelude.{◌≡◌, Bool, true, false, cond, not, get_or, take, find, position, count_by, unwrap_or, ltb, None, Some, Option, ◌&&◌, ◌||◌}
 use Rattle.std.specs.List.{list_all, list_any, position_or_len, range_with_len, slice_get}
 use Rattle.std.proofs.Math.Path.{refl, ap}
-use Rattle.std.proofs.Common.{sym, ◌∙◌, add-one, add-zero, take_all, get_or-take, length-take-le, ltb-true, ltb-false, length, arith}
-use Rattle.std.proofs.lemmas.List.Folds.{list_all_more, list_any_more, find_at}
+use Rattle.std.proofs.Common.{sym, ◌∙◌, add-one, add-zero, take_all, ltb-true, ltb-false, length, arith}
+use Rattle.std.proofs.lemmas.List.Folds.{list_all_more, find_at}
 use Rattle.std.proofs.lemmas.List.Sums.{length-filter, count_by_more_yes, count_by_more_no, fails_before_first, passes_at_first}
 use Rattle.std.proofs.lemmas.List.FromFn.{length-range_with_len, get_or-range_with_len}
 use Rattle.std.proofs.lemmas.Option.{slice_get-get_or, slice_get_past}
 use Rattle.std.proofs.lemmas.Iterator.{YieldsList-from_range}
-use Rattle.std.proofs.lemmas.Iterator.Search.{all_from_yields_List, any_from_yields_List, position_from_yields_List, find_from_yields_List}
+use Rattle.std.proofs.lemmas.Iterator.Search.{all_from_yields_List, find_from_yields_List}
 use Rattle.std.proofs.lemmas.Iterator.Consumers.{count_from_yields_List, YieldsList-from_filter}
 use Rattle.std.proofs.lemmas.Iterator.Adapters.{option_map_id}
 use Rattle.std.proofs.iter.Yields.{nat_range_steps}
 use Rattle.std.specs.Bool.{⊤}
 use Rattle.std.specs.Fn.{Called, CalledAt}
-use Rattle.std.specs.Iterator.{ChecksAll, ChecksAny, FindsPosition, FindsItem, Drains}
+use Rattle.std.specs.Iterator.{ChecksAll, FindsItem, Drains}
 use Rattle.std.specs.Iterator.Adapters.{filter_source, filter_callee, filter_steps}
 use Rattle.std.specs.declared.ops.Range.{Range}
 use Rattle.std.specs.declared.iter.Filter.{Filter}
@@ -24,10 +24,10 @@ use denote.Ref.{Bor}
 use mathlib.Core.List.{List, [], ◌∷◌}
 use Prim.Native.Nat.{ℕ, zero, suc, ◌+◌, ◌≤◌, ◌<◌}
 use Rattle.base.specs.Choice.{pick}
-use Rattle.base.specs.Keyed.{at, any_of, all_of, keep, find as find_of}
-use Rattle.base.specs.Range.{all, any, count, bit}
-use Rattle.base.specs.RangeLaws.{all_cong, any_cong, count_cong}
-use Rattle.base.specs.First.{first, until, place_or}
+use Rattle.base.specs.Keyed.{at, any_of, all_of, find as find_of}
+use Rattle.base.specs.Range.{all, count, bit}
+use Rattle.base.specs.RangeLaws.{all_cong, count_cong}
+use Rattle.base.specs.First.{first}
 use Rattle.base.specs.FirstLaws.{first_each, first_is, first_cong}
 
 -- ── the words of Keyed ──
@@ -57,11 +57,6 @@ module _ {A : Type 0} (p : A → Bool) where
   unfolding any_of
   list_any-any_of [] = refl
   list_any-any_of (x ∷ xs) = rw (list_any-any_of xs) (or-pick (p x) (any_of p xs))
-
-  pub filter-keep : (xs : List A) → filter p xs ≡ keep p xs
-  unfolding keep
-  filter-keep [] = refl
-  filter-keep (x ∷ xs) = rw (filter-keep xs) (cond-pick (p x) _ _)
 
   -- std's `find` and Keyed's
   pub find-find : (xs : List A) → find p xs ≡ find_of p xs
@@ -94,12 +89,6 @@ module _ {A : Type 0} (p : A → Bool) where
       found true e = refl
       found false e = omega (arith, ltb-false _ _ e, at-le xs)
 
--- `xs[..n].iter().position(f).unwrap_or(n)`
-pub unwrap_or-position-take : {A : Type 0} (p : A → Bool) (xs : List A) (n : ℕ) → n ≤ length xs → unwrap_or (position p (take n xs)) n ≡ at p (take n xs)
-unwrap_or-position-take p xs n l =
-    let e : length (take n xs) ≡ n = length-take-le n xs l in
-    ap (unwrap_or (position p (take n xs))) (sym e) ∙ unwrap_or-position p (take n xs)
-
 -- ── the words of Range and First, of the first n of a list ──
 module _ {A : Type 0} (p : A → Bool) (d : A) where
   pub list_all-all-take : (xs : List A) (n : ℕ) → n ≤ length xs → list_all p (take n xs) ≡ all n (λ k. p (get_or xs k d))
@@ -108,13 +97,6 @@ module _ {A : Type 0} (p : A → Bool) (d : A) where
   list_all-all-take xs (suc n) l =
       let e : list_all p (take (suc n) xs) ≡ (list_all p (take n xs) && p (get_or xs n d)) = rw add-one at (list_all_more p xs n d (omega arith)) in
       e ∙ rw (list_all-all-take xs n (omega arith))
-
-  pub list_any-any-take : (xs : List A) (n : ℕ) → n ≤ length xs → list_any p (take n xs) ≡ any n (λ k. p (get_or xs k d))
-  unfolding any
-  list_any-any-take xs zero l = refl
-  list_any-any-take xs (suc n) l =
-      let e : list_any p (take (suc n) xs) ≡ (list_any p (take n xs) || p (get_or xs n d)) = rw add-one at (list_any_more p xs n d (omega arith)) in
-      e ∙ rw (list_any-any-take xs n (omega arith))
 
   pub count_by-count-take : (xs : List A) (n : ℕ) → n ≤ length xs → count_by p (take n xs) ≡ count n (λ k. p (get_or xs k d))
   unfolding count
@@ -130,9 +112,6 @@ module _ {A : Type 0} (p : A → Bool) (d : A) where
   pub list_all-all : (xs : List A) → list_all p xs ≡ all (length xs) (λ k. p (get_or xs k d))
   list_all-all xs = ap (list_all p) (sym (take_all (length xs) xs (omega arith))) ∙ list_all-all-take xs (length xs) (omega arith)
 
-  pub list_any-any : (xs : List A) → list_any p xs ≡ any (length xs) (λ k. p (get_or xs k d))
-  list_any-any xs = ap (list_any p) (sym (take_all (length xs) xs (omega arith))) ∙ list_any-any-take xs (length xs) (omega arith)
-
   pub count_by-count : (xs : List A) → count_by p xs ≡ count (length xs) (λ k. p (get_or xs k d))
   count_by-count xs = ap (count_by p) (sym (take_all (length xs) xs (omega arith))) ∙ count_by-count-take xs (length xs) (omega arith)
 
@@ -146,15 +125,6 @@ module _ {A : Type 0} (p : A → Bool) (d : A) where
       found false e =
           sym (first_each (λ k. p (get_or xs k d)) (length xs) (λ k l. fails_before_first p xs k d (omega (arith, ltb-false _ _ e))))
 
-  pub position-first-take : (xs : List A) (n : ℕ) → n ≤ length xs → position p (take n xs) ≡ first n (λ k. p (get_or xs k d))
-  position-first-take xs n l =
-      let e : length (take n xs) ≡ n = length-take-le n xs l in
-      position-first (take n xs) ∙ rw e (first_cong _ _ n (λ k m. ap p (get_or-take n xs k d m)))
-
-unwrap_or-place_or : (o : Option ℕ) (d : ℕ) → unwrap_or o d ≡ place_or d o
-unwrap_or-place_or (Some k) d = refl
-unwrap_or-place_or None d = refl
-
 -- ── the numbers below n, as `(0..n)` gives them ──
 nth : (n k : ℕ) → k < n → get_or (range_with_len 0 n) k 0 ≡ k
 nth n k l = get_or-range_with_len 0 n k 0 l ∙ omega arith
@@ -164,11 +134,6 @@ module _ (p : ℕ → Bool) where
   list_all-range n =
       list_all-all p 0 (range_with_len 0 n)
       ∙ rw (length-range_with_len 0 n) (all_cong _ _ n (λ k l. ap p (nth n k l)))
-
-  pub list_any-range : (n : ℕ) → list_any p (range_with_len 0 n) ≡ any n p
-  list_any-range n =
-      list_any-any p 0 (range_with_len 0 n)
-      ∙ rw (length-range_with_len 0 n) (any_cong _ _ n (λ k l. ap p (nth n k l)))
 
   pub count_by-range : (n : ℕ) → count_by p (range_with_len 0 n) ≡ count n p
   count_by-range n =
@@ -195,15 +160,6 @@ module _ (p : ℕ → Bool) where
   pub find-range : (n : ℕ) → find p (range_with_len 0 n) ≡ first n p
   find-range n = find-position n ∙ position-range n
 
-  -- `(0..n).find(f).unwrap_or(n)`
-  pub unwrap_or-find-range : (n : ℕ) → unwrap_or (find p (range_with_len 0 n)) n ≡ until n p
-  unfolding until
-  unwrap_or-find-range n = rw (find-range n) (unwrap_or-place_or (first n p) n)
-
-  pub unwrap_or-position-range : (n : ℕ) → unwrap_or (position p (range_with_len 0 n)) n ≡ until n p
-  unfolding until
-  unwrap_or-position-range n = rw (position-range n) (unwrap_or-place_or (first n p) n)
-
 -- ── what the calls over `0..n` return ──
 -- From the call's clause `ran`, from where the range starts and ends, and from what the closure computes, which `λ x b q k. search (rules, tests)` proves.
 
@@ -217,13 +173,6 @@ ComputesAt {F} p g f = (x : ℕ) (b : Bool) (q : F) → CalledAt g f x b q → (
 module _ {F : Type 0} {s u : Range ℕ} {f : F} (p : ℕ → Bool) (n : ℕ) where
   pub all_below : {g : Mut F (ℕ × ⊤) Bool} {r : Bool} → ChecksAll nat_range_steps g s f r u → s ≡ record { start = 0; end = n } → Computes p g f → r ≡ all n p
   all_below ran e h = all_from_yields_List p u f _ ran (YieldsList-from_range 0 n n e (omega arith)) h ∙ list_all-range p n
-
-  pub any_below : {g : Mut F (ℕ × ⊤) Bool} {r : Bool} → ChecksAny nat_range_steps g s f r u → s ≡ record { start = 0; end = n } → Computes p g f → r ≡ any n p
-  any_below ran e h = any_from_yields_List p u f _ ran (YieldsList-from_range 0 n n e (omega arith)) h ∙ list_any-range p n
-
-  pub position_below : {g : Mut F (ℕ × ⊤) Bool} {r : Option ℕ} → FindsPosition nat_range_steps g s f r u → s ≡ record { start = 0; end = n } → Computes p g f →
-      r ≡ first n p
-  position_below ran e h = position_from_yields_List p u f _ ran (YieldsList-from_range 0 n n e (omega arith)) h ∙ position-range p n
 
 -- the second `_` of a call is the range that is left
 pub find_below : {F : Type 0} {s : Range ℕ} {f : F} (p : ℕ → Bool) (n : ℕ) {g : Mut F (Bor ℕ × ⊤) Bool} (r : Option ℕ) (u : Range ℕ) →

@@ -1,6 +1,6 @@
 -- A search, a walk and a choice that count up one number at a time, in the words of the definitions. The code goes by iterators now (Rows.antt); these are kept
 -- since they say what a definition gives, one number further. Assumes nothing.
-use Rattle.std.specs.Prelude.{ℕ, ◌+◌, ◌≤◌, ◌<◌, ◌≡◌, List, [], ◌∷◌, ◌++◌, map, Bool, true, false, length, get_or, None, Option, Some}
+use Rattle.std.specs.Prelude.{ℕ, ◌+◌, ◌≤◌, ◌<◌, ◌≡◌, List, [], ◌∷◌, ◌++◌, map, Bool, true, false, get_or, None, Option, Some}
 use Rattle.std.proofs.Math.Path.{refl}
 use Rattle.std.proofs.Common.{sym, ◌∙◌, ⊎_elim, eq-or-lt_of_le, add-zero, arith}
 use Rattle.std.proofs.lemmas.List.{map-append}

@@ -1,18 +1,14 @@
 -- What a loop that counts up shows of `gather`. Assumes nothing.
 use Prim.Native.Nat.{ℕ, zero, suc, ◌+◌, ◌≤◌, ◌<◌}
-use Rattle.std.specs.Prelude.{◌≡◌, Bool, ◌&&◌, cond, get_or}
+use Rattle.std.specs.Prelude.{◌≡◌, Bool}
 use Rattle.std.proofs.Math.Path.{refl, sym, ap}
-use Rattle.std.proofs.Common.{◌∙◌, le_antisymm, eq-or-lt_of_le, le_of_suc-le-suc, add-zero, add-one, arith, None, Option, Some}
+use Rattle.std.proofs.Common.{◌∙◌, le_antisymm, eq-or-lt_of_le, le_of_suc-le-suc, add-zero, add-one, arith}
 use Rattle.std.proofs.Math.Bool.{true, false}
-use mathlib.Core.List.{List, [], ◌∷◌, ◌++◌, append-nil}
+use mathlib.Core.List.{[], ◌∷◌, ◌++◌, append-nil}
 use Rattle.std.proofs.Math.Logic.{⊎_elim}
-use Rattle.std.proofs.Math.ListN.{length, length-append, get_or-eq_default, get_or-append}
-use Rattle.std.proofs.lemmas.List.{get_or_at}
+use Rattle.std.proofs.Math.ListN.{length, length-append}
 use Rattle.base.specs.Choice.{pick}
 use Rattle.base.specs.Range.{count, bit}
-use Rattle.base.specs.First.{first, or_else}
-use Rattle.base.specs.Keyed.{find}
-use Rattle.profile.specs.RangeMore.{count-lt}
 use Rattle.lookup.specs.Gather.{gather}
 use Rattle.lookup.specs.FirstMore.{not_behind}
 

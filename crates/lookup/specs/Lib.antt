@@ -1,5 +1,6 @@
 pub mod Gather
 pub mod Lookup
+pub mod NamedLaws
 pub mod Rows
 pub mod View
 pub mod SeenLaws

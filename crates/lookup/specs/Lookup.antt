@@ -1,6 +1,7 @@
 -- What each lookup finds. Definitions only. A part is a bank, by its number, or the globals, 255.
 use Rattle.std.specs.Prelude.{ℕ, ◌≤◌, ◌≡◌, ◌⊎◌, Bool, ◌&&◌, List, [], ◌∷◌, eqb, leb, ltb, length, get_or, None, Option, Some}
 use Rattle.std.specs.Bool.{beq}
+use Rattle.base.specs.Choice.{pick}
 use Rattle.base.specs.Range.{all, count, every}
 use Rattle.base.specs.First.{first, until, or_else}
 use Rattle.base.specs.Keyed.{find, change}
@@ -9,7 +10,20 @@ use Rattle.profile.specs.Profile.{records, byte_at, half_at, double_at, is_kind,
 use Rattle.lookup.specs.declared.Destination.{Destination}
 use Rattle.lookup.specs.declared.Command.{Command}
 use Rattle.lookup.specs.declared.Entry.{Entry}
+use Rattle.lookup.specs.declared.Rec.{Rec}
+use Rattle.lookup.specs.declared.Rec.TheVariants as act
 use Rattle.lookup.specs.Gather.{gather}
+
+-- ── names ──
+
+-- "Absent is 65535"
+abbrev pub or_absent : Option ℕ → ℕ
+or_absent None = 65535
+or_absent (Some n) = n
+
+-- the name, if it is one
+unfoldable pub named : ℕ → Option ℕ
+named n = pick (eqb n 65535) None (Some n)
 
 -- ── records ──
 
@@ -70,6 +84,9 @@ live_of s b = half_of s 8 65535 (bank_at s b)
 -- what `rec` does: 0 absent, 1 scene, 2 other
 abbrev pub rec_of : List ℕ → ℕ → ℕ
 rec_of s b = byte_of s 10 0 (bank_at s b)
+
+abbrev pub rec_named : ℕ → Option Rec
+rec_named n = pick (eqb n 0) None (Some (pick (eqb n 1) act.Scene (act.Other n)))
 
 -- `select` jumps to a bank
 abbrev pub select_of : List ℕ → ℕ → Bool

@@ -3,10 +3,9 @@ use Rattle.std.specs.Prelude.{ℕ, ◌≤◌, ◌<◌, ◌≡◌, refl, true, fa
 use Rattle.std.proofs.Common.{sym, ◌∙◌, lt_of_lt_of_le, eqb-true, eq-eqb}
 use Rattle.base.specs.RangeLaws.{every-at}
 use Rattle.base.specs.First.{first, or_else}
-use Rattle.base.specs.FirstLaws.{first-at, first-hit, until-le, until_here, until-done, until_on}
+use Rattle.base.specs.FirstLaws.{first-at, until-le, until_here, until_on}
 use Rattle.profile.specs.Profile.{records, byte_at, is_kind}
-use Rattle.lookup.specs.declared.Command.{Command}
-use Rattle.lookup.specs.Lookup.{is_entry, is_past, reach, entry, found_at, control_of, encoder_of, precede, encoder_place, before}
+use Rattle.lookup.specs.Lookup.{is_entry, is_past, reach, entry, found_at, control_of, encoder_of, precede, encoder_place}
 
 -- ── how far a lookup goes ──
 

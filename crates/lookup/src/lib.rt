@@ -1,10 +1,10 @@
 #![tactic(auto)]
 
 // Every lookup that the bridge makes in a profile. `specs/View.antt` offers them to the definition as one record.
-ghost use Rattle.std.specs.Prelude.{◌≡◌, ◌∷◌, [], ◌++◌, ◌+◌, ◌<◌, ◌≤◌, ltb, length, get_or, take, None, IfSome};
+ghost use Rattle.std.specs.Prelude.{◌≡◌, ◌<◌, ◌≤◌, ltb, length, get_or, None, IfSome};
 ghost use Rattle.std.specs.Option.{option_map};
 ghost use Rattle.profile.specs.Profile.{records, bank_count, verdict};
-ghost use Rattle.lookup.specs.Lookup.{positions_of, remember_of, is_entry, is_past, entry, half_of, byte_of, bank_at, name_of, device_of, live_of, rec_of, select_of, bank_named, dest_at, fader_of, encoder_place, same_dest, scenes_of, position, button_of, command_at, entry_at, transports_of, transport_of, before, place, merged, times, most_common, MayBeDriver};
+ghost use Rattle.lookup.specs.Lookup.{or_absent, named, positions_of, remember_of, is_entry, entry, half_of, byte_of, bank_at, name_of, device_of, live_of, rec_of, rec_named, select_of, bank_named, dest_at, fader_of, encoder_place, same_dest, scenes_of, position, button_of, command_at, entry_at, transports_of, transport_of, before, place, merged, times, most_common};
 
 mod lists;
 mod walk;
@@ -38,6 +38,13 @@ pub struct Command {
     pub command: u16,
 }
 
+// What R does: it loads a scene, or something else, by its number in the profile.
+#[derive(Clone, Copy)]
+pub enum Rec {
+    Scene,
+    Other(u8),
+}
+
 // A transport button and what it runs.
 #[derive(Clone, Copy)]
 pub struct Entry {
@@ -68,6 +75,8 @@ pub fn remember(profile: &[u8]) -> bool
 
 // ── records ──
 
+// A record's kind, 1 to 6, stays the profile's number: kinds are compared by order, and a byte may be no kind.
+
 #[tactic(auto, unfolding(base::specs::Range::every))]
 fn is_entry(row: Record, kind: u8, part: u8, number: u8) -> bool
     ensures { result ≡ is_entry row.entry.profile.now kind part number row.entry.k }
@@ -83,7 +92,15 @@ fn find(profile: &[u8], kind: u8, part: u8, number: u8) -> Option<Record>
     up_to(profile, kind).find(|row| is_entry(*row, kind, part, number))
 }
 
-// Two bytes of the first record of the kind, the part and the number, 65535 if there is none.
+// The name, if it is one.
+#[tactic(auto, unfolding(crate::specs::Lookup::named))]
+fn named(name: u16) -> Option<u16>
+    ensures { result ≡ named name }
+{
+    if name == ABSENT { None } else { Some(name) }
+}
+
+// Two bytes of the first record of the kind, the part and the number, 65535 if there is none. They are the profile's own number; `named` makes the Option.
 fn half_of(profile: &[u8], kind: u8, part: u8, number: u8, o: usize) -> u16
     requires { o ≤ 30 }
     ensures { result ≡ half_of profile.now o 65535 (entry profile.now kind part number) }
@@ -117,6 +134,7 @@ pub fn bank_count(profile: &[u8]) -> usize
     record::count_kind(profile, 1)
 }
 
+// The profile's own number, 65535 for none.
 pub fn bank_name(profile: &[u8], bank: u8) -> u16
     ensures { result ≡ name_of profile.now bank }
 {
@@ -124,22 +142,27 @@ pub fn bank_name(profile: &[u8], bank: u8) -> u16
 }
 
 // The bank's own driver.
-pub fn device_of(profile: &[u8], bank: u8) -> u16
-    ensures { result ≡ device_of profile.now bank }
+pub fn device_of(profile: &[u8], bank: u8) -> Option<u16>
+    ensures { result ≡ named (device_of profile.now bank) }
 {
-    half_of(profile, 1, bank, 0, 6)
+    named(half_of(profile, 1, bank, 0, 6))
 }
 
-pub fn live_of(profile: &[u8], bank: u8) -> u16
-    ensures { result ≡ live_of profile.now bank }
+pub fn live_of(profile: &[u8], bank: u8) -> Option<u16>
+    ensures { result ≡ named (live_of profile.now bank) }
 {
-    half_of(profile, 1, bank, 0, 8)
+    named(half_of(profile, 1, bank, 0, 8))
 }
 
-pub fn rec_action(profile: &[u8], bank: u8) -> u8
-    ensures { result ≡ rec_of profile.now bank }
+// What the bank says of R, where it says anything.
+pub fn rec_action(profile: &[u8], bank: u8) -> Option<Rec>
+    ensures { result ≡ rec_named (rec_of profile.now bank) }
 {
-    bank_byte(profile, bank, 10)
+    match bank_byte(profile, bank, 10) {
+        0 => None,
+        1 => Some(Rec::Scene),
+        other => Some(Rec::Other(other)),
+    }
 }
 
 pub fn select_is_bank(profile: &[u8], bank: u8) -> bool
@@ -210,12 +233,10 @@ pub fn scene_count(profile: &[u8], bank: u8) -> usize
 }
 
 // The name of the bank's n-th scene, from 0.
-pub fn scene_name(profile: &[u8], bank: u8, n: usize) -> u16
-    ensures { result ≡ get_or (scenes_of profile.now bank) n 65535 }
+pub fn scene_name(profile: &[u8], bank: u8, n: usize) -> Option<u16>
+    ensures { or_absent result ≡ get_or (scenes_of profile.now bank) n 65535 }
 {
-    of_part(profile, 4, bank)
-        .nth(n)
-        .map_or(ABSENT, |row| row.half(4))
+    of_part(profile, 4, bank).nth(n).map(|row| row.half(4))
 }
 
 // The first position of a name in the bank's list of scenes.
@@ -228,23 +249,21 @@ pub fn scene_position(profile: &[u8], bank: u8, name: u16) -> Option<usize>
 // ── default buttons ──
 
 // The command of a driver's first default button of the kind.
-pub fn default_command(profile: &[u8], driver: u8, kind: u8) -> u16
-    ensures { result ≡ button_of profile.now driver kind }
+pub fn default_command(profile: &[u8], driver: u8, kind: u8) -> Option<u16>
+    ensures { result ≡ named (button_of profile.now driver kind) }
 {
-    half_of(profile, 6, driver, kind, 4)
+    named(half_of(profile, 6, driver, kind, 4))
 }
 
 // ── the names of banks ──
 
 // The first bank of the name.
-pub fn bank_named(profile: &[u8], name: u16) -> Option<usize>
+pub fn bank_named(profile: &[u8], name: u16) -> Option<u8>
     requires { verdict profile.now ≡ 0 }
     ensures { result ≡ bank_named profile.now name }
 {
     let banks = bank_count(profile) as u8;
-    (0..banks)
-        .find(|bank| bank_name(profile, *bank) == name)
-        .map(usize::from)
+    (0..banks).find(|bank| bank_name(profile, *bank) == name)
 }
 
 // ── transport ──
@@ -311,16 +330,16 @@ fn times_in(drivers: &[u8], driver: u8) -> usize
 }
 
 // The first of the most frequent.
-pub fn most_common(drivers: &[u8]) -> u16
-    ensures value { result ≡ most_common drivers.now }
-    ensures may_be_driver { MayBeDriver result }
+pub fn most_common(drivers: &[u8]) -> Option<u8>
+    ensures value { or_absent result ≡ most_common drivers.now }
+    ensures named { result ≡ named (most_common drivers.now) }
 {
-    let mut best = ABSENT;
+    let mut best = None;
     let mut often = 0;
     for driver in drivers {
         let times = times_in(drivers, *driver);
         if often < times {
-            best = u16::from(*driver);
+            best = Some(*driver);
             often = times;
         }
     }

@@ -1,4 +1,5 @@
-// Short lists: the core has no heap, so that each is an array and how many of its places are taken.
+// Short lists: the core has no heap, so that each is an array and how many of its places are taken. Each item has a list of its own, since an array of a
+// parameter's type is refused.
 ghost use Rattle.std.specs.Prelude.{◌≡◌, ◌∷◌, [], ◌++◌, ◌<◌, ◌≤◌, List, ℕ, length, take};
 ghost use Rattle.lookup.specs.declared.Entry.{Entry};
 ghost use Rattle.lookup.specs.Lookup.{place};

@@ -19,7 +19,7 @@ fn all_at_most(table: &[u16; 1024], from: usize, limit: u16) -> bool
 fn is_counted(kind: u8) -> bool
     ensures { result ≡ counted kind }
 {
-    (4 <= kind) & (kind <= 6)
+    matches!(kind, 4..=6)
 }
 
 impl Record<'_> {
@@ -31,6 +31,7 @@ impl Record<'_> {
     }
 }
 
+// There is no heap: the counts stand in a table of fixed size.
 pub fn limits_ok(profile: &[u8]) -> bool
     requires { (length profile.now ≤ 65536) × (fields_ok profile.now ≡ true) }
     ensures { result ≡ limits_ok profile.now }

@@ -73,10 +73,10 @@ fn ordered(profile: &[u8]) -> Option<usize>
 pub fn is_control(kind: u8) -> bool
     ensures { result ≡ control kind }
 {
-    (kind == 2) | (kind == 3)
+    matches!(kind, 2 | 3)
 }
 
-// As kinds never fall, the first record of kind 4 or more ends the faders and encoders.
+// As kinds never fall, the first record of kind 4 or more ends the faders and encoders. There is no heap: what was seen stands in a table of fixed size.
 fn once_each(profile: &[u8]) -> bool
     requires { (fields_ok profile.now ≡ true) × (all (records profile.now) (ordered_at profile.now) ≡ true) }
     ensures { result ≡ once_each profile.now }

@@ -2,7 +2,7 @@
 ghost use Rattle.std.specs.Prelude.{◌≡◌, ◌<◌, ◌≤◌};
 ghost use Rattle.profile.specs.Profile.{records, byte_at, half_at, double_at, kind_count};
 
-// How many records a profile has.
+// How many records a profile has. A record is taken by its number, as the definitions count records: an iterator of slices would have to be tied to that.
 pub fn count(profile: &[u8]) -> usize
     ensures { result ≡ records profile.now }
 {

@@ -2,6 +2,8 @@
 
 // Examines the profiles of its input, and writes for each its name and the number with which it is declined, 0 if it is accepted.
 //
+// A name is passed on as the bytes that it is, which may be no text, and so its line is written piece by piece and not displayed.
+//
 // A profile is a byte and as many bytes of its name, then its length in four bytes, the lowest first, and as many bytes of records.
 ghost use Rattle.std.specs.Prelude.{◌≤◌, length};
 ghost use Rattle.io.specs.Counts.{IsPrefixLen};

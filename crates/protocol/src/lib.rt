@@ -102,6 +102,7 @@ const KINDS: [Kind; 15] = [
 ];
 
 impl Kind {
+    // A method and no `From`: contracts say `number_of`, and a call reads the same.
     #[tactic(auto, using(crate::proofs::Laws::tag_number))]
     pub fn number(self) -> u8
         ensures { result ≡ number_of self }
@@ -168,7 +169,7 @@ impl Button {
     }
 }
 
-// The note of a kind that is one single button.
+// The note of a kind that is one single button. The kind is the profile's number, a byte that may be no kind, so one match on the byte does.
 #[tactic(auto, unfolding(crate::specs::Protocol::note_of))]
 pub fn note_of(kind: u8) -> Option<u8>
     ensures { result ≡ note_of kind }
@@ -179,7 +180,7 @@ pub fn note_of(kind: u8) -> Option<u8>
     }
 }
 
-// The note that a transport button of the kind lights.
+// The note that a transport button of the kind lights. The kind is the profile's number here too.
 #[tactic(auto, unfolding(crate::specs::Protocol::transport_note))]
 pub fn transport_note(kind: u8) -> Option<u8>
     ensures { result ≡ transport_note kind }

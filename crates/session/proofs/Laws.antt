@@ -1,4 +1,5 @@
 -- What the session's functions share: a list that is kept as the first n of an array of `top` places. Assumes nothing.
+use Rattle.std.specs.Prelude.{find}
 use Rattle.std.proofs.Common.{None, Some}
 use mathlib.Core.Path.{◌≡◌, refl, sym, ap, ◌∙◌}
 use mathlib.Core.Bool.{Bool, true, false, ◌&&◌}
@@ -16,8 +17,10 @@ use Rattle.base.specs.Choice.{pick}
 use Rattle.base.specs.Keyed.{at, any_of, all_of, keep, beside}
 use Rattle.base.specs.BesideLaws as side
 use Rattle.base.specs.KeyedLaws as laws
+use Rattle.base.specs.StdLaws.{find-find}
 use Rattle.lookup.specs.Lookup.{dest_at}
-use Rattle.session.specs.Session.{Turn, turn_at, turns_up_to, is_encoder, wires_to, is_dest, add_to, first_turn, turn, RoomToTurn, Hushed, hushed_at, hushed_up_to, hushed_level, hush, unhush, has_room, same_target, is_target, other_target}
+use Rattle.session.specs.Session.{Turn, turn_at, turns_up_to, is_encoder, wires_to, is_dest, add_to, first_turn, turn, RoomToTurn, Hushed, hushed_at, hushed_up_to, hushed_level, hush, unhush, has_room, same_target, is_target, other_target, is_strip, strip_at}
+use Rattle.session.specs.declared.Strip.{Strip}
 use Rattle.session.specs.SessionLaws.{sums_in, sums_long, same_sum}
 
 -- what stands past an array's end
@@ -67,6 +70,12 @@ module _ {A B : Type 0} (f : A → Bool) (h : A → B) (d : A) (top : ℕ) (ts :
           let n : top ≤ k = ltb-false k top q in
           rw (take-append-le top made (h (get_or xs j d) ∷ []) (omega (arith, how_many))) e
       go false q = rw append-nil e
+
+-- ── the strip of a number, as std finds it ──
+
+pub strip_by_find : (number : ℕ) (l : List Strip) → find (is_strip number) l ≡ strip_at number l
+unfolding strip_at
+strip_by_find number l = find-find (is_strip number) l
 
 -- ── targets and levels, side by side ──
 

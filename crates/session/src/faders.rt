@@ -1,143 +1,65 @@
 // The faders of live banks.
 #![tactic(auto, unfolding(crate::specs::Session::strips_at, crate::specs::Session::strips_for, crate::specs::Session::seen_strips, crate::specs::Session::strip_dest, crate::specs::Session::strip_of, crate::specs::Session::same_strip))]
 
-ghost use Rattle.std.specs.Prelude.{◌≡◌, true, false, [], ◌+◌, ◌≤◌, ◌<◌, replicate, find};
+ghost use Rattle.std.specs.Prelude.{◌≡◌, true, [], ◌≤◌, ◌<◌, replicate, find};
 ghost use Rattle.std.specs.Prelude.{Some};
-ghost use Rattle.drivers.specs.Shown.{seen_faders};
-ghost use Rattle.session.specs.Session.{no_strip, no_strips, strips_at, strips_for, seen_strips, strips_or, is_strip, strip_at, strip_dest, found_strip, strip_of, strips_of, on_surface, same_strip, same_at, same_strips as same_strips_of, label_of};
+ghost use Rattle.session.specs.Session.{no_strip, no_strips, strips_at, strips_for, seen_strips, strips_or, is_strip, strip_at, strip_dest, found_strip, strip_of, strips_of, on_surface, same_strip, same_at, same_strips, label_of};
 
 use crate::{Live, Strip, Strips};
-use drivers::{FaderList, LiveFader};
+use drivers::LiveFader;
 use lookup::Destination;
 
-fn no_strip() -> Strip
-    ensures { result ≡ no_strip }
-{
-    Strip {
-        number: 0,
-        driver: 0,
-        target: 0,
-        label: 0,
-        group: 0,
-        mute: 0,
+impl Strip {
+    fn none() -> Strip
+        ensures { result ≡ no_strip }
+    {
+        Strip {
+            number: 0,
+            driver: 0,
+            target: 0,
+            label: 0,
+            group: 0,
+            mute: 0,
+        }
     }
-}
 
-// A bank whose driver was not asked.
-fn no_strips() -> Strips
-    ensures { result ≡ no_strips }
-{
-    Strips {
-        known: false,
-        list: [no_strip(); 8],
-        count: 0,
+    fn handed_over(driver: u8, f: LiveFader) -> Strip
+        ensures { result ≡ strip_of driver f }
+    {
+        Strip {
+            number: f.number,
+            driver,
+            target: f.target,
+            label: label_of(f),
+            group: f.group,
+            mute: f.mute,
+        }
     }
-}
 
-pub fn no_live() -> Live
-    ensures { result ≡ record { banks = replicate 16 no_strips } }
-{
-    Live {
-        banks: [no_strips(); 16],
+    // The driver says nothing of takeover and range: a live fader has both in full.
+    pub fn destination(self) -> Destination
+        ensures { result ≡ strip_dest self }
+    {
+        Destination {
+            driver: self.driver,
+            target: self.target,
+            label: self.label,
+            group: self.group,
+            mute: self.mute,
+            takeover: true,
+            low: 0.0,
+            high: 1.0,
+        }
     }
-}
 
-pub fn strips_at(live: Live, bank: u8) -> Strips
-    requires { bank < 16 }
-    ensures { result ≡ strips_at bank live }
-{
-    live.banks[bank as usize]
-}
-
-// The bank's strips become these.
-pub fn strips_for(live: Live, bank: u8, strips: Strips) -> Live
-    requires { bank < 16 }
-    ensures { result ≡ strips_for bank strips live }
-{
-    let mut t = live;
-    t.banks[bank as usize] = strips;
-    t
-}
-
-fn numbered(strips: &[Strip], number: u8) -> Option<Strip>
-    ensures { result ≡ find (is_strip number) strips.now }
-{
-    strips.iter().copied().find(|s| s.number == number)
-}
-
-// The number's strip, if the bank is known to have one.
-pub fn strip_numbered(strips: &Strips, number: u8) -> Option<Strip>
-    requires { strips.now.count ≤ 8 }
-    ensures { result ≡ strip_at number (strips_or (seen_strips strips.now)) }
-{
-    if strips.known {
-        numbered(&strips.list[..strips.count], number)
-    } else {
-        None
-    }
-}
-
-// The driver says nothing of takeover and range: a live fader has both in full.
-pub fn strip_destination(s: Strip) -> Destination
-    ensures { result ≡ strip_dest s }
-{
-    Destination {
-        driver: s.driver,
-        target: s.target,
-        label: s.label,
-        group: s.group,
-        mute: s.mute,
-        takeover: true,
-        low: 0.0,
-        high: 1.0,
-    }
-}
-
-// What a live bank wires the fader to.
-pub fn strip_found(strips: Strips, number: u8) -> Option<Destination>
-    requires { strips.count ≤ 8 }
-    ensures { result ≡ found_strip (strip_at number (strips_or (seen_strips strips))) }
-{
-    strip_numbered(&strips, number).map(strip_destination)
-}
-
-// What the number is wired to is the same. A derived == would compare the numbers too.
-fn same_strip(a: Strip, b: Strip) -> bool
-    ensures { result ≡ same_strip a b }
-{
-    (a.driver == b.driver)
-        & ((a.target == b.target)
-            & ((a.label == b.label) & ((a.group == b.group) & (a.mute == b.mute))))
-}
-
-// The number's strip is the same in both lists, or in neither.
-fn same_at(a: &Strips, b: &Strips, number: u8) -> bool
-    requires { (a.now.count ≤ 8) × (b.now.count ≤ 8) }
-    ensures { result ≡ same_at (strip_at number (strips_or (seen_strips a.now))) (strip_at number (strips_or (seen_strips b.now))) }
-{
-    match (strip_numbered(a, number), strip_numbered(b, number)) {
-        (Some(s), Some(t)) => same_strip(s, t),
-        (None, None) => true,
-        _ => false,
-    }
-}
-
-// Two lists are the same if they are so at each number, in whatever order they stand.
-pub fn same_strips(a: Strips, b: Strips) -> bool
-    requires { (a.count ≤ 8) × (b.count ≤ 8) }
-    ensures { result ≡ same_strips_of (strips_or (seen_strips a)) (strips_or (seen_strips b)) }
-{
-    (0..8).all(|i| same_at(&a, &b, i + 1))
-}
-
-// A bank whose driver has no faders, or refused to say.
-pub fn no_faders() -> Strips
-    ensures result_value { seen_strips result ≡ Some [] }
-    ensures count_bound { result.count ≤ 8 }
-{
-    Strips {
-        known: true,
-        ..no_strips()
+    // What the number is wired to is the same. A derived == would compare the numbers too.
+    fn same(self, other: Strip) -> bool
+        ensures { result ≡ same_strip self other }
+    {
+        (self.driver == other.driver)
+            & ((self.target == other.target)
+                & ((self.label == other.label)
+                    & ((self.group == other.group) & (self.mute == other.mute))))
     }
 }
 
@@ -148,37 +70,130 @@ fn label_of(f: LiveFader) -> u16
     if f.label == 0 { f.target } else { f.label }
 }
 
-fn strip_of(driver: u8, f: LiveFader) -> Strip
-    ensures { result ≡ strip_of driver f }
-{
-    Strip {
-        number: f.number,
-        driver,
-        target: f.target,
-        label: label_of(f),
-        group: f.group,
-        mute: f.mute,
-    }
-}
-
 fn on_surface(f: LiveFader) -> bool
     ensures { result ≡ on_surface f }
 {
     (1 <= f.number) & (f.number <= 8)
 }
 
-// The faders that a driver handed over: those of the surface, at most eight.
-pub fn handed_over(driver: u8, faders: FaderList) -> Strips
-    requires { faders.count ≤ 32 }
-    ensures result_value { seen_strips result ≡ Some (strips_of driver (seen_faders faders)) }
-    ensures count_bound { result.count ≤ 8 }
+fn find_strip(strips: &[Strip], number: u8) -> Option<Strip>
+    ensures { result ≡ find (is_strip number) strips.now }
 {
-    let mut t = no_faders();
-    for f in &faders.list[..faders.count] {
-        if on_surface(*f) & (t.count < 8) {
-            t.list[t.count] = strip_of(driver, *f);
-            t.count += 1;
+    strips.iter().copied().find(|s| s.number == number)
+}
+
+impl Strips {
+    // A bank whose driver was not asked.
+    fn unasked() -> Strips
+        ensures { result ≡ no_strips }
+    {
+        Strips {
+            known: false,
+            list: [Strip::none(); 8],
+            count: 0,
         }
     }
-    t
+
+    // A bank whose driver has no faders, or refused to say.
+    pub fn none() -> Strips
+        ensures result_value { seen_strips result ≡ Some [] }
+        ensures count_bound { result.count ≤ 8 }
+    {
+        Strips {
+            known: true,
+            ..Strips::unasked()
+        }
+    }
+
+    // The faders that a driver handed over: those of the surface, at most eight.
+    pub fn handed_over(driver: u8, faders: &[LiveFader]) -> Strips
+        ensures result_value { seen_strips result ≡ Some (strips_of driver faders.now) }
+        ensures count_bound { result.count ≤ 8 }
+    {
+        let mut t = Strips::none();
+        for f in faders {
+            if on_surface(*f) & (t.count < 8) {
+                t.list[t.count] = Strip::handed_over(driver, *f);
+                t.count += 1;
+            }
+        }
+        t
+    }
+
+    // The bank's faders, none while it is not known: then its list is not looked at.
+    pub fn as_slice(&self) -> &[Strip]
+        requires { self.now.known ≡ true → self.now.count ≤ 8 }
+        ensures { result.now ≡ strips_or (seen_strips self.now) }
+    {
+        if self.known {
+            &self.list[..self.count]
+        } else {
+            &[]
+        }
+    }
+
+    // The number's strip, if the bank is known to have one.
+    #[tactic(auto, using(crate::proofs::Laws::strip_by_find))]
+    pub fn numbered(&self, number: u8) -> Option<Strip>
+        requires { self.now.known ≡ true → self.now.count ≤ 8 }
+        ensures { result ≡ strip_at number (strips_or (seen_strips self.now)) }
+    {
+        find_strip(self.as_slice(), number)
+    }
+
+    // What the live bank wires the fader to.
+    pub fn destination(&self, number: u8) -> Option<Destination>
+        requires { self.now.known ≡ true → self.now.count ≤ 8 }
+        ensures { result ≡ found_strip (strip_at number (strips_or (seen_strips self.now))) }
+    {
+        self.numbered(number).map(Strip::destination)
+    }
+
+    // The number's strip is the same in both lists, or in neither.
+    fn same_at(&self, other: &Strips, number: u8) -> bool
+        requires self_few { self.now.known ≡ true → self.now.count ≤ 8 }
+        requires other_few { other.now.known ≡ true → other.now.count ≤ 8 }
+        ensures { result ≡ same_at (strip_at number (strips_or (seen_strips self.now))) (strip_at number (strips_or (seen_strips other.now))) }
+    {
+        match (self.numbered(number), other.numbered(number)) {
+            (Some(a), Some(b)) => a.same(b),
+            (None, None) => true,
+            _ => false,
+        }
+    }
+
+    // Two lists are the same if they are so at each number, in whatever order they stand.
+    pub fn same(&self, other: &Strips) -> bool
+        requires self_few { self.now.known ≡ true → self.now.count ≤ 8 }
+        requires other_few { other.now.known ≡ true → other.now.count ≤ 8 }
+        ensures { result ≡ same_strips (strips_or (seen_strips self.now)) (strips_or (seen_strips other.now)) }
+    {
+        (0..8).all(|i| self.same_at(other, i + 1))
+    }
+}
+
+impl Live {
+    // No driver was asked.
+    pub fn unasked() -> Live
+        ensures { result ≡ record { banks = replicate 16 no_strips } }
+    {
+        Live {
+            banks: [Strips::unasked(); 16],
+        }
+    }
+
+    pub fn strips(&self, bank: u8) -> &Strips
+        requires { bank < 16 }
+        ensures { result.now ≡ strips_at bank self.now }
+    {
+        &self.banks[usize::from(bank)]
+    }
+
+    // The bank's strips become these.
+    pub fn set(&mut self, bank: u8, strips: Strips)
+        requires { bank < 16 }
+        ensures { self.new ≡ strips_for bank strips self.old }
+    {
+        self.banks[usize::from(bank)] = strips;
+    }
 }

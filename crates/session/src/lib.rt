@@ -10,19 +10,8 @@ mod shown;
 ghost use Rattle.std.specs.Prelude.{◌≡◌};
 ghost use Rattle.session.specs.Session.{fresh_session};
 
-pub use desk::{
-    emptied_line, emptied_turns, find_turn, is_marked, last_move, marked, moved_to, no_marks,
-    place_move, turned, unmarked,
-};
-pub use faders::{
-    handed_over, no_faders, same_strips, strip_destination, strip_found, strip_numbered, strips_at,
-    strips_for,
-};
-pub use muting::{hush, hushed_level, is_hushed, unhush};
-pub use shown::{
-    flashing, loaded_by, no_flash, none_noted, note_muted, scene_at, scene_to, scene_unknown,
-    solo_to, was_muted,
-};
+pub use desk::find_turn;
+pub use muting::is_hushed;
 
 // ── where we are ──
 
@@ -107,7 +96,7 @@ pub struct Flash {
     pub sent: u8,
 }
 
-// The soloed fader and the one whose scene was loaded last, from 1, or 0; mutes before a solo by fader - 1; the scene position of each bank, if it is known.
+// The soloed fader and the one whose scene was loaded last, from 1, or 0, which is none and crosses to C as it is; mutes before a solo by fader - 1; the scene position of each bank, if it is known.
 #[repr(C)]
 #[derive(Clone, Copy)]
 pub struct Lamps {
@@ -131,7 +120,8 @@ pub struct Silenced {
 // ── all of it ──
 
 // It crosses to C, in memory of one fixed size: so a flag has its value beside it (known and level, on and start), a list its count, and two arrays stand side by
-// side (records and sums, targets and levels), where Option, Vec and a list of pairs would not cross.
+// side (records and sums, targets and levels), where Option, Vec and a list of pairs would not cross. C hands these structs on, and may hand
+// any: so no type can hold the bounds of their counts, and the methods ask for them.
 #[repr(C)]
 #[derive(Clone, Copy)]
 pub struct Session {
@@ -156,13 +146,13 @@ pub fn fresh() -> Session
         bank: 0,
         livedue: true,
         liveat: 0.0,
-        live: faders::no_live(),
-        marks: desk::no_marks(),
-        moves: desk::no_moves(),
-        line: desk::no_line(),
-        turns: desk::no_turns(),
-        lamps: shown::no_lamps(),
-        silenced: muting::none_silenced(),
+        live: Live::unasked(),
+        marks: Marks::none(),
+        moves: Moves::none(),
+        line: Line::none(),
+        turns: Turns::none(),
+        lamps: Lamps::none(),
+        silenced: Silenced::none(),
         opened: [false; 16],
     }
 }

@@ -8,19 +8,26 @@ use lib.ListN.{length, take, get_or}
 use lib.Seq.{length-take-le, take-suc, take_all}
 use lib.Dec.{ltb}
 use borrow.Author.Tests.{le-leb, ltb-true, ltb-false}
-use Rattle.std.specs.Prelude.{cond, position, is_some, Some, None}
-use Rattle.std.specs.List.{list_any}
+use Rattle.std.specs.Prelude.{cond, position, is_some, slice_get, Some, None}
+use Rattle.std.specs.Option.{option_map, unwrap_or}
+use Rattle.std.proofs.lemmas.Option.{slice_get-get_or}
+use Rattle.std.specs.List.{list_all, list_any}
 use Rattle.base.specs.Choice.{pick}
 use Rattle.base.specs.Range.{all, every}
 use Rattle.base.specs.Keyed.{at, any_of, all_of, no_twice}
+use Rattle.base.specs.RangeLaws.{all_cong}
 use Rattle.base.specs.KeyedLaws.{once_none, any_yes, any_no}
-use Rattle.base.specs.StdLaws.{list_any-any_of, position-at}
+use Rattle.base.specs.StdLaws.{list_all-all_of, list_any-any_of, position-at}
 use Rattle.base.specs.Pigeon.{left_of_lem, right_of}
 use Rattle.base.specs.BesideLaws.{beside-all, beside_once}
 use Rattle.session.specs.Session.{turn_at, is_encoder, same_turn}
 use Rattle.session.specs.declared.Turns.{Turns}
 use Rattle.definition.specs.Faders.{in_range}
 use Rattle.definition.specs.Shape.{good_turn, same_wire, shaped_turns}
+
+-- an iterator's `all` in the definitions' word
+pub all_by_list : {A : Type 0} (p : A → Bool) (xs : List A) → list_all p xs ≡ all_of p xs
+all_by_list p xs = list_all-all_of p xs
 
 any-last : {A : Type 0} (f : A → Bool) (xs : List A) (y : A) → any_of f (xs ++ (y ∷ [])) ≡ pick (any_of f xs) true (f y)
 unfolding any_of
@@ -63,6 +70,17 @@ module _ {A : Type 0} (same : A → A → Bool) (d : A) where
   pub each-new : (xs : List A) → all (length xs) (New xs) ≡ no_twice same xs
   each-new xs = once-up-to xs (length xs) (omega arith) ∙ ap (no_twice same) (take_all (length xs) xs (omega arith))
 
+-- the same without a default, for a list of any type
+module _ {A : Type 0} (same : A → A → Bool) where
+  abbrev pub New-in : List A → ℕ → Bool
+  New-in xs i = not (unwrap_or (option_map (λ x. list_any (λ z. same z x) (take i xs)) (slice_get xs i)) false)
+
+  pub each-new-in : (xs : List A) → all (length xs) (New-in xs) ≡ no_twice same xs
+  unfolding all no_twice
+  each-new-in [] = refl
+  each-new-in (x ∷ xs) =
+      all_cong (New-in (x ∷ xs)) (New same x (x ∷ xs)) (length (x ∷ xs)) (λ k l. rw (slice_get-get_or (x ∷ xs) k x l) refl) ∙ each-new same x (x ∷ xs)
+
 -- what each passes, each of the first n passes
 pub all-take : {A : Type 0} (f : A → Bool) (xs : List A) (n : ℕ) → all_of f xs ≡ true → all_of f (take n xs) ≡ true
 unfolding all_of
@@ -80,28 +98,12 @@ none-found f (x ∷ xs) = rw (position-at f (x ∷ xs), list_any-any_of f (x ∷
     go true q = rw (any_yes f x (x ∷ xs) (ltb-true _ _ q))
     go false q = rw (any_no f x (x ∷ xs) (ltb-false _ _ q))
 
--- ── one test after the other ──
-pub both : {v a b A B : Bool} → a ≡ A → a ≡ true → v ≡ b → b ≡ B → v ≡ (A && B)
-both {A = A} e q r f = let t : A ≡ true = sym e ∙ q in rw t (r ∙ f)
-
-pub neither : {v a A : Bool} (B : Bool) → a ≡ A → a ≡ false → v ≡ a → v ≡ (A && B)
-neither {A = A} B e q r = let t : A ≡ false = sym e ∙ q in rw t (r ∙ q)
-
-pub in-turn : (a b c d e f : Bool) → (((((a && b) && c) && d) && e) && f) ≡ every (a ∷ b ∷ c ∷ d ∷ e ∷ f ∷ [])
-unfolding every
-in-turn false b c d e f = refl
-in-turn true false c d e f = refl
-in-turn true true false d e f = refl
-in-turn true true true false e f = refl
-in-turn true true true true false f = refl
-in-turn true true true true true f = refl
-
 -- the sums, of which the code tests the numbers by themselves and the records by themselves
-pub sums-tested : (p : List ℕ) (t : Turns) (x y : Bool) → length t.records ≡ 136 → length t.sums ≡ 136 → t.count ≤ 136 →
+pub sums_tested : (p : List ℕ) (t : Turns) (x y : Bool) → length t.records ≡ 136 → length t.sums ≡ 136 → t.count ≤ 136 →
     all_of (is_encoder p) (take t.count t.records) ≡ true → x ≡ all_of in_range (take t.count t.sums) →
     y ≡ no_twice (same_wire p) (take t.count t.records) → (x && y) ≡ shaped_turns p t
 unfolding shaped_turns every
-sums-tested p t x y lk ln h e f g =
+sums_tested p t x y lk ln h e f g =
     let ks = take t.count t.records in
     let ns = take t.count t.sums in
     let a : length ks ≡ t.count = length-take-le t.count t.records (omega arith) in

@@ -1,17 +1,66 @@
-#![tactic(auto, unfolding(base::specs::Range::every, definition::specs::Shape::shaped_flash))]
+#![tactic(auto, using(crate::proofs::Laws::all_by_list), unfolding(base::specs::Range::every, definition::specs::Shape::shaped_line, definition::specs::Shape::shaped_strips, session::specs::Session::seen_strips, definition::specs::Shape::shaped_flash, definition::specs::Shape::well_shaped))]
 
 // Number 8: whether a session is well shaped. The tests that no key is there twice compare each pair: at most 120 pairs of channels, 28 of live numbers in a
 // bank, 9,180 of destinations and 32,640 of targets, where the lists are full.
-ghost use Rattle.std.specs.Prelude.{◌≡◌, true, ◌<◌, eqb, not, length, get_or, take};
+ghost use Rattle.std.specs.Prelude.{◌≡◌, Bool, true, false, ◌<◌, eqb, not, length, get_or, take, slice_get};
 ghost use Rattle.std.specs.List.{list_all, list_any};
+ghost use Rattle.std.specs.Option.{option_map, unwrap_or};
 ghost use Rattle.base.specs.Keyed.{all_of, no_twice};
 ghost use Rattle.session.specs.Session.{is_encoder, no_move, same_channel, low_channel, no_strip, same_number, good_strip};
 ghost use Rattle.definition.specs.Faders.{in_range};
-ghost use Rattle.definition.specs.Shape.{shaped_line, shaped_strips, same_wire, shaped_turns, shaped_flash, well_shaped};
-ghost use Rattle.shape.specs.Parts.{TellsHushed, Tells};
+ghost use Rattle.definition.specs.Shape.{shaped_line, shaped_strips, same_wire, shaped_turns, shaped_silenced, shaped_flash, well_shaped};
 
 use profile::record::{self, Record};
-use session::{Flash, Line, Live, Move, Session, Strip, Strips, Turns};
+use session::{Flash, Line, Live, Move, Session, Silenced, Strip, Strips, Turns};
+
+// ── none twice ──
+
+// What no two entries of a list may share: a move's channel, a fader's number, a target.
+trait Entry {
+    ghost same: { Self → Self → Bool };
+
+    fn same(&self, other: &Self) -> bool
+        ensures { result ≡ same self.now other.now };
+}
+
+impl Entry for Move {
+    ghost same = { same_channel };
+
+    fn same(&self, other: &Move) -> bool {
+        self.channel == other.channel
+    }
+}
+
+impl Entry for Strip {
+    ghost same = { same_number };
+
+    fn same(&self, other: &Strip) -> bool {
+        self.number == other.number
+    }
+}
+
+impl Entry for u16 {
+    ghost same = { eqb };
+
+    fn same(&self, other: &u16) -> bool {
+        self == other
+    }
+}
+
+// The i-th is the same as one before it.
+fn is_again<T: Entry>(list: &[T], i: usize) -> bool
+    requires { i < length list.now }
+    ensures { result ≡ unwrap_or (option_map (λ x. list_any (λ z. T.same z x) (take i list.now)) (slice_get list.now i)) false }
+{
+    let x = &list[i];
+    list[..i].iter().any(|z| z.same(x))
+}
+
+fn none_twice<T: Entry>(list: &[T]) -> bool
+    ensures { result ≡ no_twice T.same list.now }
+{
+    (0..list.len()).all(|i| !is_again(list, i))
+}
 
 // ── the line ──
 
@@ -21,21 +70,6 @@ fn low_channels(moves: &[Move]) -> bool
     moves.iter().all(|m| m.channel <= 15)
 }
 
-// The channel of the i-th is among those before it.
-fn channel_before(moves: &[Move], i: usize) -> bool
-    requires { i < length moves.now }
-    ensures { result ≡ list_any (λ m. same_channel m (get_or moves.now i no_move)) (take i moves.now) }
-{
-    let channel = moves[i].channel;
-    moves[..i].iter().any(|m| m.channel == channel)
-}
-
-fn channels_once(moves: &[Move]) -> bool
-    ensures { result ≡ no_twice same_channel moves.now }
-{
-    (0..moves.len()).all(|i| !channel_before(moves, i))
-}
-
 // A channel is at most 15, and in the line once.
 fn shaped_line(line: &Line) -> bool
     ensures { result ≡ shaped_line line.now }
@@ -43,26 +77,11 @@ fn shaped_line(line: &Line) -> bool
     if 16 < line.count {
         return false;
     }
-    let moves = &line.list[..line.count];
-    low_channels(moves) && channels_once(moves)
+    let moves = line.moves();
+    low_channels(moves) && none_twice(moves)
 }
 
 // ── live lists ──
-
-// The number of the i-th is among those before it.
-fn number_before(strips: &[Strip], i: usize) -> bool
-    requires { i < length strips.now }
-    ensures { result ≡ list_any (λ s. same_number s (get_or strips.now i no_strip)) (take i strips.now) }
-{
-    let number = strips[i].number;
-    strips[..i].iter().any(|s| s.number == number)
-}
-
-fn numbers_once(strips: &[Strip]) -> bool
-    ensures { result ≡ no_twice same_number strips.now }
-{
-    (0..strips.len()).all(|i| !number_before(strips, i))
-}
 
 fn good_strips(strips: &[Strip]) -> bool
     ensures { result ≡ list_all good_strip strips.now }
@@ -82,8 +101,8 @@ fn shaped_strips(strips: &Strips) -> bool
     if 8 < strips.count {
         return false;
     }
-    let list = &strips.list[..strips.count];
-    good_strips(list) && numbers_once(list)
+    let list = strips.as_slice();
+    good_strips(list) && none_twice(list)
 }
 
 fn shaped_live(live: &Live) -> bool
@@ -98,7 +117,7 @@ fn shaped_live(live: &Live) -> bool
 fn is_encoder(profile: &[u8], k: u16) -> bool
     ensures { result ≡ is_encoder profile.now k }
 {
-    let k = k as usize;
+    let k = usize::from(k);
     k < record::count(profile) && Record::at(profile, k).kind() == 3
 }
 
@@ -114,13 +133,13 @@ fn sums_in_range(sums: &[i32]) -> bool
     sums.iter().all(|sum| (-1000000..=1000000).contains(sum))
 }
 
-// Record i wires its encoder to another destination than those before it.
+// Record i wires its encoder to another destination than those before it. No `Entry`: what two records share is told by the profile, which is no part of them.
 fn new_destination(profile: &[u8], records: &[u16], i: usize) -> bool
     requires records_value { all_of (is_encoder profile.now) records.now ≡ true }
     requires i_in_bounds { i < length records.now }
     ensures { result ≡ not (list_any (λ k. same_wire profile.now k (get_or records.now i 0)) (take i records.now)) }
 {
-    let d = lookup::destination_at(profile, records[i] as usize);
+    let d = lookup::destination_at(profile, usize::from(records[i]));
     session::find_turn(profile, &records[..i], d).is_none()
 }
 
@@ -131,35 +150,30 @@ fn no_destination_twice(profile: &[u8], records: &[u16]) -> bool
     (0..records.len()).all(|i| new_destination(profile, records, i))
 }
 
+#[tactic(auto, using(crate::proofs::Laws::all_by_list), unfolding(definition::specs::Shape::shaped_turns, base::specs::Range::every))]
 fn shaped_turns(profile: &[u8], turns: &Turns) -> bool
     ensures { result ≡ shaped_turns profile.now turns.now }
 {
-    let n = turns.count;
-    if 136 < n {
+    if 136 < turns.count {
         return false;
     }
-    let records = &turns.records[..n];
+    let records = turns.records();
     if !all_encoders(profile, records) {
         return false;
     }
-    sums_in_range(&turns.sums[..n]) && no_destination_twice(profile, records)
+    sums_in_range(turns.sums()) && no_destination_twice(profile, records)
 }
 
 // ── silenced levels ──
 
-fn no_target_twice(targets: &[u16]) -> bool
-    ensures { result ≡ no_twice eqb targets.now }
+#[tactic(auto, using(session::specs::SessionLaws::targets_seen), unfolding(definition::specs::Shape::shaped_silenced))]
+fn shaped_silenced(silenced: &Silenced) -> bool
+    ensures { result ≡ shaped_silenced silenced.now }
 {
-    (0..targets.len()).all(|i| !targets[..i].contains(&targets[i]))
-}
-
-fn shaped_silenced(targets: &[u16; 256], n: usize) -> bool
-    ensures { TellsHushed result targets.now n }
-{
-    if 256 < n {
+    if 256 < silenced.count {
         return false;
     }
-    no_target_twice(&targets[..n])
+    none_twice(silenced.targets())
 }
 
 // ── the flash ──
@@ -177,40 +191,14 @@ fn shaped_flash(flash: Flash) -> bool
 
 // ── all of it ──
 
-// The bank is there, and the line, the live lists, the sums, the silenced levels and the flash are well shaped. It is told the parts that it looks at: a
-// session that is handed on is copied whole.
-pub fn shaped_parts(
-    profile: &[u8],
-    bank: u8,
-    line: Line,
-    live: Live,
-    turns: Turns,
-    targets: &[u16; 256],
-    hushed: usize,
-    flash: Flash,
-) -> bool
-    ensures { Tells result profile.now bank line live turns targets.now hushed flash }
+// The bank is there, and the line, the live lists, the sums, the silenced levels and the flash are well shaped.
+pub fn shaped(profile: &[u8], session: &Session) -> bool
+    ensures { result ≡ well_shaped profile.now session.now }
 {
-    lookup::has_bank(profile, bank as usize)
-        && shaped_line(&line)
-        && shaped_live(&live)
-        && shaped_turns(profile, &turns)
-        && shaped_silenced(targets, hushed)
-        && shaped_flash(flash)
-}
-
-// The same of a whole session.
-pub fn shaped(session: Session, profile: &[u8]) -> bool
-    ensures { result ≡ well_shaped profile.now session }
-{
-    shaped_parts(
-        profile,
-        session.bank,
-        session.line,
-        session.live,
-        session.turns,
-        &session.silenced.targets,
-        session.silenced.count,
-        session.lamps.flash,
-    )
+    lookup::has_bank(profile, usize::from(session.bank))
+        && shaped_line(&session.line)
+        && shaped_live(&session.live)
+        && shaped_turns(profile, &session.turns)
+        && shaped_silenced(&session.silenced)
+        && shaped_flash(session.lamps.flash)
 }

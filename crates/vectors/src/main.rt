@@ -2,6 +2,9 @@
 
 // Runs the codec over messages and prints what each says and what is sent back for it. The input has a message to a line, in hexadecimal; what
 // follows a '#' is a remark, and a line that starts with one is no message.
+//
+// A line is written piece by piece as its message is read, by crate io, which formats a number in a buffer of fixed size. Nothing is proved of the text, so that
+// a type for each line that is displayed, as in crate printing, would be no plainer.
 use protocol::{Button, Event};
 
 const STDOUT_FILENO: i32 = 1;
@@ -28,11 +31,11 @@ fn say(text: &[u8]) {
 }
 
 fn say_number(n: u8) {
-    io::print_decimal(STDOUT_FILENO, n as u64);
+    io::print_decimal(STDOUT_FILENO, u64::from(n));
 }
 
 fn say_byte(b: u8) {
-    io::print_hex(STDOUT_FILENO, b as u64, 2);
+    io::print_hex(STDOUT_FILENO, u64::from(b), 2);
     say(b" ");
 }
 
@@ -40,7 +43,7 @@ fn say_bytes(b: [u8; 3]) {
     say(b" sends ");
     say_byte(b[0]);
     say_byte(b[1]);
-    io::print_hex(STDOUT_FILENO, b[2] as u64, 2);
+    io::print_hex(STDOUT_FILENO, u64::from(b[2]), 2);
 }
 
 fn say_delta(delta: i32) {
@@ -49,7 +52,7 @@ fn say_delta(delta: i32) {
     } else {
         say(b" right ");
     }
-    io::print_decimal(STDOUT_FILENO, delta.unsigned_abs() as u64);
+    io::print_decimal(STDOUT_FILENO, u64::from(delta.unsigned_abs()));
 }
 
 fn say_channel(button: Button) {
@@ -62,7 +65,7 @@ fn say_channel(button: Button) {
 fn say_note(kind: u8) {
     if let Some(n) = protocol::transport_note(kind) {
         say(b" lights ");
-        io::print_hex(STDOUT_FILENO, n as u64, 2);
+        io::print_hex(STDOUT_FILENO, u64::from(n), 2);
     }
 }
 

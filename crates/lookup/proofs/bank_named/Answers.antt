@@ -1,6 +1,6 @@
 -- `lookup::bank_named` meets its contract. Assumes nothing.
-use Rattle.std.specs.Prelude.{◌≡◌, eqb}
-use Rattle.std.proofs.Common.{rules, tests, arith, ◌∙◌}
+use Rattle.std.specs.Prelude.{eqb}
+use Rattle.std.proofs.Common.{rules, tests, arith}
 use Rattle.base.specs.StdLaws.{find_below}
 use Rattle.profile.specs.Accepted.{few_banks}
 use Rattle.profile.specs.Profile.{bank_count}
@@ -14,5 +14,4 @@ pub returns : goal.returns
 unfolding bank_named
 returns c =
     let a = c.args in
-    let same : c.map.result ≡ c.find.result = search rules in
-    same ∙ find_below (λ b. eqb (name_of a.profile.now b) a.name) (bank_count a.profile.now) c.find.result _ c.find.ensures.ran (cc) (λ x b q k. search (rules, tests))
+    find_below (λ b. eqb (name_of a.profile.now b) a.name) (bank_count a.profile.now) c.find.result _ c.find.ensures.ran (cc) (λ x b q k. search (rules, tests))

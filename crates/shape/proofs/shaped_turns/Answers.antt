@@ -1,29 +1,12 @@
-use Rattle.std.proofs.Common.{◌≡◌, ◌∙◌, sym, take, length, true, false, refl}
-use Rattle.std.proofs.lemmas.Bool.{lt-leb, le-leb}
-use Rattle.base.specs.Range.{every}
-use Rattle.base.specs.StdLaws.{list_all-all_of}
+use Rattle.std.proofs.Common.{◌≡◌, ◌∙◌, sym, ap, take, length, true, false, refl}
+use Rattle.std.specs.List.{list_all}
+use Rattle.base.specs.Keyed.{no_twice}
 use Rattle.base.specs.KeyedLaws as laws
 use Rattle.session.specs.Session.{is_encoder}
 use Rattle.definition.specs.Faders.{in_range}
-use Rattle.definition.specs.Shape.{shaped_turns}
-use Rattle.shape.proofs.Laws.{sums-tested}
+use Rattle.definition.specs.Shape.{same_wire}
+use Rattle.shape.proofs.Laws.{all_by_list, sums_tested}
 use Rattle.shape.proofs.shaped_turns.Goals as goal
-
-pub returns-then-n-gt136 : goal.returns-then-n-gt136
-unfolding shaped_turns every
-returns-then-n-gt136 c = rw (lt-leb _ _ c.if-n-gt136.true)
-
-pub returns-then-not-all_encoders : goal.returns-then-not-all_encoders
-unfolding shaped_turns every
-returns-then-not-all_encoders c =
-    let t = c.args.turns.now in
-    let e = sym (list_all-all_of (is_encoder c.args.profile.now) (take t.count t.records)) ∙ sym c.all_encoders.ensures ∙ c.if-not-all_encoders.true in
-    rw (le-leb _ _ c.if-n-gt136.false, e)
-
-pub no_destination_twice-requires : goal.no_destination_twice-requires
-no_destination_twice-requires c =
-    let t = c.args.turns.now in
-    sym (list_all-all_of (is_encoder c.args.profile.now) (take t.count t.records)) ∙ sym c.all_encoders.ensures ∙ c.if-not-all_encoders.false
 
 pub returns-then-sums_in_range : goal.returns-then-sums_in_range
 returns-then-sums_in_range c =
@@ -31,9 +14,10 @@ returns-then-sums_in_range c =
     let t = c.args.turns.now in
     let lk : length t.records ≡ 136 = search laws.long in
     let ln : length t.sums ≡ 136 = search laws.long in
-    let e = sym (list_all-all_of (is_encoder p) (take t.count t.records)) ∙ sym c.all_encoders.ensures ∙ c.if-not-all_encoders.false in
-    let f = sym c.if-sums_in_range.true ∙ c.sums_in_range.ensures ∙ list_all-all_of in_range (take t.count t.sums) in
-    sums-tested p t true c.no_destination_twice.result lk ln c.if-n-gt136.false e f c.no_destination_twice.ensures
+    let e = sym (all_by_list (is_encoder p) (take t.count t.records)) ∙ ap (list_all (is_encoder p)) (sym c.records-records.ensures) ∙ sym c.all_encoders.ensures ∙ c.if-not-all_encoders.false in
+    let f = sym c.if-sums_in_range.true ∙ c.sums_in_range.ensures ∙ ap (list_all in_range) c.sums.ensures ∙ all_by_list in_range (take t.count t.sums) in
+    let g = c.no_destination_twice.ensures ∙ ap (no_twice (same_wire p)) c.records-records.ensures in
+    sums_tested p t true c.no_destination_twice.result lk ln c.if-turns-gt136.false e f g
 
 pub returns-else-sums_in_range : goal.returns-else-sums_in_range
 returns-else-sums_in_range c =
@@ -41,6 +25,6 @@ returns-else-sums_in_range c =
     let t = c.args.turns.now in
     let lk : length t.records ≡ 136 = search laws.long in
     let ln : length t.sums ≡ 136 = search laws.long in
-    let e = sym (list_all-all_of (is_encoder p) (take t.count t.records)) ∙ sym c.all_encoders.ensures ∙ c.if-not-all_encoders.false in
-    let f = sym c.if-sums_in_range.false ∙ c.sums_in_range.ensures ∙ list_all-all_of in_range (take t.count t.sums) in
-    c.if-sums_in_range.false ∙ sums-tested p t false _ lk ln c.if-n-gt136.false e f refl
+    let e = sym (all_by_list (is_encoder p) (take t.count t.records)) ∙ ap (list_all (is_encoder p)) (sym c.records-records.ensures) ∙ sym c.all_encoders.ensures ∙ c.if-not-all_encoders.false in
+    let f = sym c.if-sums_in_range.false ∙ c.sums_in_range.ensures ∙ ap (list_all in_range) c.sums.ensures ∙ all_by_list in_range (take t.count t.sums) in
+    c.if-sums_in_range.false ∙ sums_tested p t false _ lk ln c.if-turns-gt136.false e f refl

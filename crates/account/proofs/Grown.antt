@@ -9,7 +9,9 @@ use Rattle.base.specs.Choice.{pick}
 use Rattle.protocol.specs.Protocol.{bytes_of}
 use Rattle.protocol.specs.declared.Out.{Out}
 use Rattle.drivers.specs.Answers.{answer_of, to_other, item_count, items_of, is_unfit, is_done}
-use Rattle.drivers.specs.Talk.{Stop, going, waits, declined, overrun, Talk, Got, next, Reply, no_reply, ask, ask_at, ask_room, ask_left, ask_fit, is_open, opening, plain_call, open_for, open_if, opened_by, ask_if, use_call, send, send_at, send_room}
+use Rattle.drivers.specs.Talk.{Talk, Got, next, Reply, no_reply, ask, ask_at, ask_room, ask_left, ask_fit, is_open, opening, plain_call, open_for, open_if, opened_by, ask_if, use_call, send, send_at, send_room}
+use Rattle.drivers.specs.declared.line.Stop.{Stop}
+use Rattle.drivers.specs.declared.line.Stop.TheVariants.{Going, Waits, Declined, Overrun}
 use Rattle.drivers.specs.Paired.{Asked, reply_to, behind, after, paired}
 use Rattle.drivers.specs.PairedLaws.{after-append, paired-append, waits_on, declined_on, overrun_on}
 use Rattle.drivers.specs.declared.Call.{Call}
@@ -18,7 +20,7 @@ use Rattle.drivers.specs.declared.Answer.TheVariants as answer
 use Rattle.account.specs.Account.{saying, opened, opens, done_reply, Uses, used, opened-used, not-used}
 
 abbrev pub Goes : Talk → Type 0
-Goes t = t.stop ≡ going
+Goes t = t.stop ≡ Going
 
 pub record Grown (P : List Asked → Type 0) (t u : Talk) : Type 0 where
   pub was : Goes t
@@ -84,10 +86,10 @@ ask_ok c t g = at t.stop refl g
     room_at_lem false s e = left_at (eqb (length t.left) 0) s e
 
     at : (s : Stop) → t.stop ≡ s → Goes (ask_at s c t).talk → Took c (ask_at s c t) t
-    at going s e = room_at_lem (leb 337 (length t.calls)) s e
-    at (waits d) s e = absurd (waits_on (sym s ∙ e))
-    at declined s e = absurd (declined_on (sym s ∙ e))
-    at overrun s e = absurd (overrun_on (sym s ∙ e))
+    at Going s e = room_at_lem (leb 337 (length t.calls)) s e
+    at (Waits d) s e = absurd (waits_on (sym s ∙ e))
+    at Declined s e = absurd (declined_on (sym s ∙ e))
+    at Overrun s e = absurd (overrun_on (sym s ∙ e))
 
 -- a message asks nothing
 pub send_ok : (P : List Asked → Type 0) (out : Out) (t : Talk) → P [] → Goes (send out t) → Grown P t (send out t)
@@ -100,10 +102,10 @@ send_ok P out t h g = at t.stop refl g
         record { was = s; more = []; calls = sym (append-nil t.calls); left = refl; opened = refl; fact = h }
 
     at : (s : Stop) → t.stop ≡ s → Goes (send_at s (bytes_of out) t) → Grown P t (send_at s (bytes_of out) t)
-    at going s e = room_at_lem (leb 102 (length t.messages)) s e
-    at (waits d) s e = absurd (waits_on (sym s ∙ e))
-    at declined s e = absurd (declined_on (sym s ∙ e))
-    at overrun s e = absurd (overrun_on (sym s ∙ e))
+    at Going s e = room_at_lem (leb 102 (length t.messages)) s e
+    at (Waits d) s e = absurd (waits_on (sym s ∙ e))
+    at Declined s e = absurd (declined_on (sym s ∙ e))
+    at Overrun s e = absurd (overrun_on (sym s ∙ e))
 
 -- a call that opens nothing
 ask_grown : (c : Call) → eqb c.kind 0 ≡ false → (t : Talk) → Goes (ask c t).talk →

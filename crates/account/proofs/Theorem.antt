@@ -12,7 +12,9 @@ use Rattle.profile.specs.Profile.{verdict}
 use Rattle.profile.specs.Accepted.{few_banks}
 use Rattle.lookup.specs.View.{View, view_of}
 use Rattle.lookup.specs.declared.Destination.{Destination}
-use Rattle.drivers.specs.Talk.{Stop, going, waits, declined, overrun, start, Got}
+use Rattle.drivers.specs.Talk.{start, Got}
+use Rattle.drivers.specs.declared.line.Stop.{Stop}
+use Rattle.drivers.specs.declared.line.Stop.TheVariants as stop
 use Rattle.drivers.specs.Paired.{Asked, paired}
 use Rattle.base.specs.Keyed.{beside}
 use Rattle.session.specs.Session.{Turn, is_marked, last_move, fresh_session}
@@ -93,9 +95,9 @@ module _ (v : View) (i : ℕ) (e : Timed) (answers : List ℕ) (k : Kept) (a : A
   none_so : Inv (ms ++ []) (ts ++ []) (ks ++ []) (qs ++ []) k a
   none_so = rw (append-nil, append-nil, append-nil, append-nil) h
 
-  one : (r : Got Left) (s : Stop) → (s ≡ going → Booked v i k.site a e.what answers r.value r.talk.calls r.talk.opened) →
+  one : (r : Got Left) (s : Stop) → (s ≡ stop.Going → Booked v i k.site a e.what answers r.value r.talk.calls r.talk.opened) →
       After v i (Some e) answers k a ms ts ks qs (finish s v k r)
-  one r going f =
+  one r stop.Going f =
       let b = f refl in
       let x = r.value in
       let l = paired r.talk.calls answers in
@@ -103,16 +105,16 @@ module _ (v : View) (i : ℕ) (e : Timed) (answers : List ℕ) (k : Kept) (a : A
         desk = b.desk;
         opened = b.opened;
         placed = b.placed;
-        fate = λ n. omega (arith, h.fate n, count-append n ms (move_at v i (past_of (Some e) k.site answers (finish going v k r))), fates_event v i k.site x.site answers l a n e.what);
+        fate = λ n. omega (arith, h.fate n, count-append n ms (move_at v i (past_of (Some e) k.site answers (finish stop.Going v k r))), fates_event v i k.site x.site answers l a n e.what);
         drains = subst (Each Drained (ks ++ tick_in e.what l)) (sym (drains_event v i k.site x.site answers l a e.what)) (each_append h.drains b.drains);
         quiet = only_append h.quiet b.quiet;
         turned = λ d.
-            sum_append d ts _ ∙ ap (λ (z : ℤ). z +ℤ sum_for d (turn_at v (past_of (Some e) k.site answers (finish going v k r)))) (h.turned d)
+            sum_append d ts _ ∙ ap (λ (z : ℤ). z +ℤ sum_for d (turn_at v (past_of (Some e) k.site answers (finish stop.Going v k r)))) (h.turned d)
             ∙ sym (total_event v i k.site x.site answers l a d e.what);
       }
-  one r (waits c) f = none_so
-  one r declined f = none_so
-  one r overrun f = none_so
+  one r (stop.Waits c) f = none_so
+  one r stop.Declined f = none_so
+  one r stop.Overrun f = none_so
 
   step_if_lem : (b : Bool) (why : ℕ) → v.banks ≤ 16 → After v i (Some e) answers k a ms ts ks qs (step_if b why e v k answers)
   step_if_lem true why few = one (act e.what v k e.time (start answers k.opened)) _ (acted few)

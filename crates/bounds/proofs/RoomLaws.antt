@@ -3,7 +3,9 @@ use Rattle.std.specs.Prelude.{ℕ, ◌≤◌, ◌≡◌, Bool, List, eqb, length
 use Rattle.std.proofs.Common.{subst, arith}
 use Rattle.std.proofs.Math.Bool.{true, false}
 use Rattle.lookup.specs.View.{View}
-use Rattle.drivers.specs.Talk.{Stop, going, waits, declined, overrun, Got, start}
+use Rattle.drivers.specs.Talk.{Got, start}
+use Rattle.drivers.specs.declared.line.Stop.{Stop}
+use Rattle.drivers.specs.declared.line.Stop.TheVariants.{Going, Waits, Declined, Overrun}
 use Rattle.drivers.specs.declared.Call.{Call}
 use Rattle.event.specs.declared.Timed.{Timed}
 use Rattle.definition.specs.Step.{Kept, Left, Ended, done, finish, step_if, refusal, act, step}
@@ -23,14 +25,14 @@ module _ (v : View) (k : Kept) (sound : Sound v) (within : Within k) where
       })
 
   -- no event ends for want of room
-  pub never_overrun : (e : Timed) (answers : List ℕ) → (act e.what v k e.time (start answers k.opened)).talk.stop ≡ overrun → ⊥
+  pub never_overrun : (e : Timed) (answers : List ℕ) → (act e.what v k e.time (start answers k.opened)).talk.stop ≡ Overrun → ⊥
   never_overrun e answers q = (act_room e answers).never q
 
   finish_few : (s : Stop) (r : Got Left) → Room 0 0 r.talk → FewOf (finish s v k r).ended
-  finish_few going r h = (omega (arith, h.messages), omega (arith, h.calls))
-  finish_few (waits c) r h = tt
-  finish_few declined r h = tt
-  finish_few overrun r h = tt
+  finish_few Going r h = (omega (arith, h.messages), omega (arith, h.calls))
+  finish_few (Waits c) r h = tt
+  finish_few Declined r h = tt
+  finish_few Overrun r h = tt
 
   step_few : (e : Timed) (answers : List ℕ) → FewOf (step v k e answers).ended
   unfolding step

@@ -11,7 +11,9 @@ use Rattle.protocol.specs.declared.Event.{Event}
 use Rattle.protocol.specs.declared.Event.TheVariants as event
 use Rattle.profile.specs.Profile.{bank_count, verdict}
 use Rattle.lookup.specs.View.{View, view_of}
-use Rattle.drivers.specs.Talk.{Stop, going, waits, declined, overrun, Talk, Got, next, start}
+use Rattle.drivers.specs.Talk.{Talk, Got, next, start}
+use Rattle.drivers.specs.declared.line.Stop.{Stop}
+use Rattle.drivers.specs.declared.line.Stop.TheVariants.{Going, Waits, Declined, Overrun}
 use Rattle.session.specs.Session.{Hushed, targets_of}
 use Rattle.session.specs.SessionLaws.{WellStrips}
 use Rattle.session.specs.declared.Strip.{Strip}
@@ -141,7 +143,7 @@ module _ (p : List ℕ) (yes : verdict p ≡ 0) (k : Kept) (well : Well p k) whe
       }
 
   finish_well : (s : Stop) (r : Got Left) → WellLeft p r.value → length r.talk.opened ≡ 16 → Well p (finish s v k r).kept
-  finish_well going r h o =
+  finish_well Going r h o =
       record {
         bank = h.settled.bank;
         line = h.desk.line;
@@ -155,9 +157,9 @@ module _ (p : List ℕ) (yes : verdict p ≡ 0) (k : Kept) (well : Well p k) whe
         flash = h.settled.lamps;
         opened = o;
       }
-  finish_well (waits c) r h o = well
-  finish_well declined r h o = well
-  finish_well overrun r h o = well
+  finish_well (Waits c) r h o = well
+  finish_well Declined r h o = well
+  finish_well Overrun r h o = well
 
   -- what an event leaves, whether it is done, waits or is refused
   pub step_well : (e : Timed) → LowInput e.what → (answers : List ℕ) → Well p (step (view_of p) k e answers).kept

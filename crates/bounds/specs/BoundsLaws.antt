@@ -2,17 +2,19 @@
 use Rattle.std.specs.Prelude.{ℕ, ◌≡◌, refl, List, Bool, true, false, eqb}
 use Rattle.std.proofs.Common.{subst}
 use Rattle.lookup.specs.View.{View}
-use Rattle.drivers.specs.Talk.{Stop, going, waits, declined, overrun, Got, start}
+use Rattle.drivers.specs.Talk.{Got, start}
+use Rattle.drivers.specs.declared.line.Stop.{Stop}
+use Rattle.drivers.specs.declared.line.Stop.TheVariants.{Going, Waits, Declined, Overrun}
 use Rattle.drivers.specs.declared.Call.{Call}
 use Rattle.event.specs.declared.Timed.{Timed}
 use Rattle.definition.specs.Step.{Kept, Left, Ended, refused, waiting, finish, step_if, refusal, act, step}
 use Rattle.bounds.specs.Bounds.{KeptBy}
 
 finish_keeps : (s : Stop) (v : View) (k : Kept) (r : Got Left) → KeptBy k (finish s v k r).ended (finish s v k r).kept
-finish_keeps going v k r = tt
-finish_keeps (waits c) v k r = refl
-finish_keeps declined v k r = refl
-finish_keeps overrun v k r = refl
+finish_keeps Going v k r = tt
+finish_keeps (Waits c) v k r = refl
+finish_keeps Declined v k r = refl
+finish_keeps Overrun v k r = refl
 
 step_keeps : (v : View) (k : Kept) (e : Timed) (answers : List ℕ) → KeptBy k (step v k e answers).ended (step v k e answers).kept
 unfolding step

@@ -6,7 +6,9 @@ use Rattle.protocol.specs.declared.Out.{Out}
 use Rattle.lookup.specs.View.{View}
 use Rattle.lookup.specs.declared.Entry.{Entry}
 use Rattle.drivers.specs.Answers.{answer_of, item_count, is_unfit, is_done}
-use Rattle.drivers.specs.Talk.{Stop, going, waits, declined, overrun, Talk, next, start, halted, took, ask, ask_at, ask_room, ask_left, ask_fit, plain_call, opening, is_open, open_for, open_if, opened_by, ask_if, use_call, send, send_at, send_room}
+use Rattle.drivers.specs.Talk.{Talk, next, start, halted, took, ask, ask_at, ask_room, ask_left, ask_fit, plain_call, opening, is_open, open_for, open_if, opened_by, ask_if, use_call, send, send_at, send_room}
+use Rattle.drivers.specs.declared.line.Stop.{Stop}
+use Rattle.drivers.specs.declared.line.Stop.TheVariants.{Going, Waits, Declined, Overrun}
 use Rattle.drivers.specs.declared.Call.{Call}
 use Rattle.session.specs.Session.{Turn, strips_or}
 use Rattle.session.specs.declared.Strip.{Strip}
@@ -67,36 +69,36 @@ module _ (I : Talk → Type 0) (keeps : Keeps I) where
   ask_keeps c t h = at t.stop
     where
       fit_at : (b : Bool) → is_unfit (answer_of t.left c.kind) ≡ b → I (ask_fit b c (answer_of t.left c.kind) t).talk
-      fit_at true f = keeps.stops declined t h
+      fit_at true f = keeps.stops Declined t h
       fit_at false f = keeps.takes c t f h
 
       left_at : (b : Bool) → I (ask_left b c t).talk
-      left_at true = keeps.stops (waits c) t h
+      left_at true = keeps.stops (Waits c) t h
       left_at false = fit_at (is_unfit (answer_of t.left c.kind)) refl
 
       room_at_lem : (b : Bool) → I (ask_room b c t).talk
-      room_at_lem true = keeps.stops overrun t h
+      room_at_lem true = keeps.stops Overrun t h
       room_at_lem false = left_at (eqb (length t.left) 0)
 
       at : (s : Stop) → I (ask_at s c t).talk
-      at going = room_at_lem (leb 337 (length t.calls))
-      at (waits d) = h
-      at declined = h
-      at overrun = h
+      at Going = room_at_lem (leb 337 (length t.calls))
+      at (Waits d) = h
+      at Declined = h
+      at Overrun = h
 
   send_keeps : (out : Out) (t : Talk) → I t → I (send out t)
   unfolding send
   send_keeps out t h = at t.stop
     where
       room_at_lem : (b : Bool) → I (send_room b (bytes_of out) t)
-      room_at_lem true = keeps.stops overrun t h
+      room_at_lem true = keeps.stops Overrun t h
       room_at_lem false = keeps.says out t h
 
       at : (s : Stop) → I (send_at s (bytes_of out) t)
-      at going = room_at_lem (leb 102 (length t.messages))
-      at (waits d) = h
-      at declined = h
-      at overrun = h
+      at Going = room_at_lem (leb 102 (length t.messages))
+      at (Waits d) = h
+      at Declined = h
+      at Overrun = h
 
   open_keeps : (driver name : ℕ) (t : Talk) → I t → I (open_for driver name t).talk
   unfolding open_for next

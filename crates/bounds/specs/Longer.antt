@@ -2,7 +2,8 @@
 -- event again". Definitions only.
 use Rattle.std.specs.Prelude.{ℕ, ◌≡◌, List, ◌∷◌, ◌++◌, ◌⊎◌}
 use Rattle.lookup.specs.View.{View}
-use Rattle.drivers.specs.Talk.{declined, Talk, Got, start}
+use Rattle.drivers.specs.Talk.{Talk, Got, start}
+use Rattle.drivers.specs.declared.line.Stop.TheVariants.{Declined}
 use Rattle.drivers.specs.declared.Call.{Call}
 use Rattle.event.specs.declared.Timed.{Timed}
 use Rattle.definition.specs.Step.{Kept, Left, Ended, done, refused, waiting, act}
@@ -14,7 +15,7 @@ pub record Starts (before : List Call) (c : Call) (calls : List Call) : Type 0 w
 
 -- a line on which c comes next after the calls before: c was asked, or the answer to it does not fit (14)
 abbrev pub Again : Call → List Call → Talk → Type 0
-Again c before t = ((t.stop ≡ declined) × (t.calls ≡ before)) ⊎ Starts before c t.calls
+Again c before t = ((t.stop ≡ Declined) × (t.calls ≡ before)) ⊎ Starts before c t.calls
 
 -- what an event does with its answers, whether it is done, waits or is refused in the end
 abbrev pub run : View → Kept → Timed → List ℕ → Got Left

@@ -5,7 +5,9 @@ use Rattle.std.proofs.Math.Path.{refl, ap}
 use Rattle.std.proofs.Common.{subst, ◌∙◌, inl, inr, arith}
 use mathlib.Core.List.{List, [], ◌∷◌, ◌++◌, append-nil}
 use Rattle.lookup.specs.View.{View}
-use Rattle.drivers.specs.Talk.{Stop, going, waits, declined, overrun, Got, start}
+use Rattle.drivers.specs.Talk.{Got, start}
+use Rattle.drivers.specs.declared.line.Stop.{Stop}
+use Rattle.drivers.specs.declared.line.Stop.TheVariants.{Going, Waits, Declined, Overrun}
 use Rattle.drivers.specs.declared.Call.{Call}
 use Rattle.event.specs.declared.Timed.{Timed}
 use Rattle.definition.specs.Step.{Kept, Left, done, waiting, finish, finished, step_if, refusal, step}
@@ -22,14 +24,14 @@ module _ (v : View) (k : Kept) (e : Timed) (answers : List ℕ) where
 
   -- ── an event that is done ──
   going_so : (s : Stop) (r : Got Left) (ms : List (List ℕ)) (cs : List Call) (used : ℕ) (saved : Bool) →
-      (finish s v k r).ended ≡ done ms cs used saved → s ≡ going
-  going_so going r ms cs used saved q = refl
-  going_so (waits c) r ms cs used saved q = cc
-  going_so declined r ms cs used saved q = cc
-  going_so overrun r ms cs used saved q = cc
+      (finish s v k r).ended ≡ done ms cs used saved → s ≡ Going
+  going_so Going r ms cs used saved q = refl
+  going_so (Waits c) r ms cs used saved q = cc
+  going_so Declined r ms cs used saved q = cc
+  going_so Overrun r ms cs used saved q = cc
 
   -- the answers left are all that differs
-  finished-same : (x : ℕ) (l : List ℕ) → (run v k e answers).talk.stop ≡ going →
+  finished-same : (x : ℕ) (l : List ℕ) → (run v k e answers).talk.stop ≡ Going →
       finished v k (run v k e (answers ++ (x ∷ l))) ≡ finished v k (run v k e answers)
   finished-same x l q =
       let r = run v k e answers in
@@ -37,10 +39,10 @@ module _ (v : View) (k : Kept) (e : Timed) (answers : List ℕ) where
       ap (λ (s : Got Left). finished v k s) h ∙ at r.talk.stop
     where
       at : (s : Stop) → finish s v k (got_more (x ∷ l) (run v k e answers)) ≡ finish s v k (run v k e answers)
-      at going = refl
-      at (waits c) = refl
-      at declined = refl
-      at overrun = refl
+      at Going = refl
+      at (Waits c) = refl
+      at Declined = refl
+      at Overrun = refl
 
   -- extra answers change nothing
   pub done-same : (ms : List (List ℕ)) (cs : List Call) (used : ℕ) (saved : Bool) → (step v k e answers).ended ≡ done ms cs used saved →
@@ -58,22 +60,22 @@ module _ (v : View) (k : Kept) (e : Timed) (answers : List ℕ) where
       at false h = refl
 
   -- ── an event that waits ──
-  waits_so : (s : Stop) (r : Got Left) (c : Call) → (finish s v k r).ended ≡ waiting c → s ≡ waits c
-  waits_so going r c q = cc
-  waits_so (waits d) r c q = cc
-  waits_so declined r c q = cc
-  waits_so overrun r c q = cc
+  waits_so : (s : Stop) (r : Got Left) (c : Call) → (finish s v k r).ended ≡ waiting c → s ≡ Waits c
+  waits_so Going r c q = cc
+  waits_so (Waits d) r c q = cc
+  waits_so Declined r c q = cc
+  waits_so Overrun r c q = cc
 
   -- it waits on its line, and was not refused before
   stops_so : (c : Call) → (step v k e answers).ended ≡ waiting c →
-      (eqb (refusal e.what v k e.time) 0 ≡ true) × ((run v k e answers).talk.stop ≡ waits c)
+      (eqb (refusal e.what v k e.time) 0 ≡ true) × ((run v k e answers).talk.stop ≡ Waits c)
   unfolding step
   stops_so c q = at (eqb (refusal e.what v k e.time) 0) q
     where
       why : ℕ
       why = refusal e.what v k e.time
 
-      at : (b : Bool) → (step_if b why e v k answers).ended ≡ waiting c → (b ≡ true) × ((run v k e answers).talk.stop ≡ waits c)
+      at : (b : Bool) → (step_if b why e v k answers).ended ≡ waiting c → (b ≡ true) × ((run v k e answers).talk.stop ≡ Waits c)
       at true h = (refl, waits_so (run v k e answers).talk.stop (run v k e answers) c h)
       at false h = (cc, cc)
 
@@ -86,12 +88,12 @@ module _ (v : View) (k : Kept) (e : Timed) (answers : List ℕ) where
 
   goes_so : (c : Call) (before : List Call) (s : Stop) (r : Got Left) → r.talk.stop ≡ s → Again c before r.talk →
       GoesOn before c r.talk.calls (finish s v k r).ended
-  goes_so c before going r q (inl (d, b)) = let z : ◌≡◌ {A = ℕ} 0 1 = cc in absurd (omega arith)
-  goes_so c before going r q (inr s) = s
-  goes_so c before (waits d) r q (inl (z, b)) = let y : ◌≡◌ {A = ℕ} 0 1 = cc in absurd (omega arith)
-  goes_so c before (waits d) r q (inr s) = s
-  goes_so c before declined r q h = refl
-  goes_so c before overrun r q h = refl
+  goes_so c before Going r q (inl (d, b)) = let z : ◌≡◌ {A = ℕ} 0 1 = cc in absurd (omega arith)
+  goes_so c before Going r q (inr s) = s
+  goes_so c before (Waits d) r q (inl (z, b)) = let y : ◌≡◌ {A = ℕ} 0 1 = cc in absurd (omega arith)
+  goes_so c before (Waits d) r q (inr s) = s
+  goes_so c before Declined r q h = refl
+  goes_so c before Overrun r q h = refl
 
   -- the same of how it ends
   pub goes_on_lem : (c : Call) → (step v k e answers).ended ≡ waiting c → (more : List ℕ) → 1 ≤ length more →

@@ -7,7 +7,9 @@ use Rattle.protocol.specs.Protocol.{bytes_of}
 use Rattle.protocol.specs.declared.Out.{Out}
 use Rattle.protocol.specs.declared.Out.TheVariants.{Led, Position}
 use Rattle.lookup.specs.View.{View}
-use Rattle.drivers.specs.Talk.{Stop, going, waits, declined, overrun, Talk, Got, start, opening}
+use Rattle.drivers.specs.Talk.{Talk, Got, start, opening}
+use Rattle.drivers.specs.declared.line.Stop.{Stop}
+use Rattle.drivers.specs.declared.line.Stop.TheVariants.{Going, Waits, Declined, Overrun}
 use Rattle.drivers.specs.Shown.{call_bytes, call_at, calls_in, message_at, messages_in}
 use Rattle.drivers.specs.Bytes.{joined, encode}
 use Rattle.drivers.specs.declared.Call.{Call}
@@ -50,10 +52,10 @@ threes =
     }
 
 finish_three : (s : Stop) (v : View) (k : Kept) (r : Got Left) → Each Three r.talk.messages → ThreeOf (finish s v k r).ended
-finish_three going v k r h = h
-finish_three (waits c) v k r h = tt
-finish_three declined v k r h = tt
-finish_three overrun v k r h = tt
+finish_three Going v k r h = h
+finish_three (Waits c) v k r h = tt
+finish_three Declined v k r h = tt
+finish_three Overrun v k r h = tt
 
 pub step_three : (v : View) (k : Kept) (e : Timed) (answers : List ℕ) → ThreeOf (step v k e answers).ended
 unfolding step

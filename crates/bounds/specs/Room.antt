@@ -3,7 +3,8 @@ use Rattle.std.specs.Prelude.{ℕ, ◌+◌, ◌≤◌, ◌<◌, ◌≡◌, Bool,
 use Rattle.protocol.specs.declared.Event.{Event}
 use Rattle.protocol.specs.declared.Event.TheVariants as event
 use Rattle.lookup.specs.View.{View}
-use Rattle.drivers.specs.Talk.{overrun, Talk}
+use Rattle.drivers.specs.Talk.{Talk}
+use Rattle.drivers.specs.declared.line.Stop.TheVariants.{Overrun}
 use Rattle.event.specs.declared.Input.{Input}
 use Rattle.event.specs.declared.Input.TheVariants as input
 use Rattle.definition.specs.Faders.{in_range}
@@ -42,7 +43,7 @@ pub record Room (m c : ℕ) (t : Talk) : Type 0 where
   pub messages : length t.messages + m ≤ 102
   pub calls : length t.calls + shut t.opened + c ≤ 337
   pub opened : length t.opened ≡ 16
-  pub never : t.stop ≡ overrun → ⊥
+  pub never : t.stop ≡ Overrun → ⊥
 
 -- at most 102 messages and 337 calls
 abbrev pub FewOf : Ended → Type 0

@@ -11,7 +11,9 @@ use Rattle.lookup.specs.Lookup.{of_kind, merged, place}
 use Rattle.lookup.specs.View.{View}
 use Rattle.lookup.specs.declared.Entry.{Entry}
 use Rattle.drivers.specs.Answers.{answer_of, is_unfit, is_done}
-use Rattle.drivers.specs.Talk.{Stop, going, waits, declined, overrun, Talk, Got, next, ask, ask_at, ask_room, ask_left, ask_fit, plain_call, opening, is_open, open_for, open_if, opened_by, ask_if, use_call, send, send_at, send_room}
+use Rattle.drivers.specs.Talk.{Talk, Got, next, ask, ask_at, ask_room, ask_left, ask_fit, plain_call, opening, is_open, open_for, open_if, opened_by, ask_if, use_call, send, send_at, send_room}
+use Rattle.drivers.specs.declared.line.Stop.{Stop}
+use Rattle.drivers.specs.declared.line.Stop.TheVariants.{Going, Waits, Declined, Overrun}
 use Rattle.drivers.specs.declared.Call.{Call}
 use Rattle.event.specs.declared.Input.{Input}
 use Rattle.event.specs.declared.Input.TheVariants as input
@@ -39,13 +41,13 @@ shut-opened (b ∷ l) (suc i) h e = omega (arith, shut-opened l i (omega arith) 
 
 -- ── the line ──
 
-pub going_so : going ≡ overrun → ⊥
+pub going_so : Going ≡ Overrun → ⊥
 going_so e = let z : ◌≡◌ {A = ℕ} 0 1 = cc in omega arith
 
-waits_so : {c : Call} → waits c ≡ overrun → ⊥
+waits_so : {c : Call} → Waits c ≡ Overrun → ⊥
 waits_so e = let z : ◌≡◌ {A = ℕ} 0 1 = cc in omega arith
 
-declined_so : declined ≡ overrun → ⊥
+declined_so : Declined ≡ Overrun → ⊥
 declined_so e = let z : ◌≡◌ {A = ℕ} 0 1 = cc in omega arith
 
 -- what a call leaves
@@ -86,10 +88,10 @@ module _ {m c : ℕ} (x : Call) (t : Talk) (h : Room m (1 + c) t) where
   room_room false e = left_room (eqb (length t.left) 0)
 
   at_room : (s : Stop) → Asked m c t (ask_at s x t).talk
-  at_room going = room_room (leb 337 (length t.calls)) refl
-  at_room (waits d) = kept_so
-  at_room declined = kept_so
-  at_room overrun = kept_so
+  at_room Going = room_room (leb 337 (length t.calls)) refl
+  at_room (Waits d) = kept_so
+  at_room Declined = kept_so
+  at_room Overrun = kept_so
 
   ask_room_lem : Asked m c t (ask x t).talk
   unfolding ask
@@ -113,10 +115,10 @@ send_room_lem {m} {c} out t h = at t.stop
         }
 
     at : (s : Stop) → Room m c (send_at s (bytes_of out) t)
-    at going = room_at_lem (leb 102 (length t.messages)) refl
-    at (waits d) = same
-    at declined = same
-    at overrun = same
+    at Going = room_at_lem (leb 102 (length t.messages)) refl
+    at (Waits d) = same
+    at Declined = same
+    at Overrun = same
 
 -- an open that was done, or was before, costs no call more than it opens
 record Opened (m c : ℕ) (r : Got Bool) : Type 0 where

@@ -9,7 +9,9 @@ use Rattle.protocol.specs.Protocol.{bytes_of}
 use Rattle.protocol.specs.declared.Out.{Out}
 use Rattle.drivers.specs.Answers.{answer_of, item_count, items_of, is_unfit, is_done}
 use Rattle.drivers.specs.AnswersLaws.{answer_there}
-use Rattle.drivers.specs.Talk.{Stop, going, waits, declined, overrun, Talk, Got, Act, got, next, Reply, no_reply, ask, ask_at, ask_room, ask_left, ask_fit, plain_call, opening, is_open, open_for, open_if, opened_by, ask_if, use_call, send, send_at, send_room}
+use Rattle.drivers.specs.Talk.{Talk, Got, Act, got, next, Reply, no_reply, ask, ask_at, ask_room, ask_left, ask_fit, plain_call, opening, is_open, open_for, open_if, opened_by, ask_if, use_call, send, send_at, send_room}
+use Rattle.drivers.specs.declared.line.Stop.{Stop}
+use Rattle.drivers.specs.declared.line.Stop.TheVariants.{Going, Waits, Declined, Overrun}
 use Rattle.drivers.specs.declared.Call.{Call}
 use Rattle.drivers.specs.declared.Answer.{Answer}
 use Rattle.bounds.specs.Longer.{Starts, Again}
@@ -29,10 +31,10 @@ module _ {A : Type 0} where
 
 -- a line that stopped
 abbrev pub Stopped : Stop → Type 0
-Stopped going = ⊥
-Stopped (waits c) = Unit {0}
-Stopped declined = Unit {0}
-Stopped overrun = Unit {0}
+Stopped Going = ⊥
+Stopped (Waits c) = Unit {0}
+Stopped Declined = Unit {0}
+Stopped Overrun = Unit {0}
 
 -- calls, and those that were made before
 pub record Grown (before calls : List Call) : Type 0 where
@@ -52,16 +54,16 @@ starts_on {a} {c = c} h k =
 module _ {A : Type 0} where
   -- what an act gave, by how its line stopped, and what the same act gives on the line with more answers: the same, or a line that goes on
   abbrev pub Longer : List ℕ → Stop → Got A → Got A → Type 0
-  Longer more going r s = s ≡ got_more more r
-  Longer more (waits c) r s = Again c r.talk.calls s.talk
-  Longer more declined r s = Unit {0}
-  Longer more overrun r s = Unit {0}
+  Longer more Going r s = s ≡ got_more more r
+  Longer more (Waits c) r s = Again c r.talk.calls s.talk
+  Longer more Declined r s = Unit {0}
+  Longer more Overrun r s = Unit {0}
 
   -- a stopped line is left as it is, calls are only added, and more answers change nothing but what is left of them
   pub record Steady (more : List ℕ) (f : Act A) : Type 0 where
     pub sticky : (t : Talk) → Stopped t.stop → (f t).talk ≡ t
     pub grows : (t : Talk) → Grown t.calls (f t).talk.calls
-    pub longer : (t : Talk) → t.stop ≡ going → Longer more (f t).talk.stop (f t) (f (with_more more t))
+    pub longer : (t : Talk) → t.stop ≡ Going → Longer more (f t).talk.stop (f t) (f (with_more more t))
 
 -- ── one act and then another ──
 
@@ -81,7 +83,7 @@ module _ {A B : Type 0} (more : List ℕ) {f : Act A} {g : A → Act B} (P : A �
   halts_calls t w s e = ap (λ (u : Talk). u.calls) (halts t (subst (λ (x : Stop). Stopped x) (sym e) s))
 
   again_on : (c : Call) (before : List Call) (t : Talk) → Again c before (f t).talk → Again c before (g (f t).value (f t).talk).talk
-  again_on c before t (inl (d, b)) = inl (halts_as t declined tt d, halts_calls t declined tt d ∙ b)
+  again_on c before t (inl (d, b)) = inl (halts_as t Declined tt d, halts_calls t Declined tt d ∙ b)
   again_on c before t (inr s) = inr (starts_on s ((second t).grows (f t).talk))
 
   chain_longer : (t : Talk) (w : Stop) → (f t).talk.stop ≡ w → Longer more w (f t) (f (with_more more t)) →
@@ -96,12 +98,12 @@ module _ {A B : Type 0} (more : List ℕ) {f : Act A} {g : A → Act B} (P : A �
       s = g (f (with_more more t)).value (f (with_more more t)).talk
 
       go : (w : Stop) → (f t).talk.stop ≡ w → Longer more w (f t) (f (with_more more t)) → Longer more r.talk.stop r s
-      go going q k = subst (λ (u : Got A). Longer more r.talk.stop r (g u.value u.talk)) (sym k) ((second t).longer (f t).talk q)
-      go (waits c) q k =
-          subst (λ (x : Stop). Longer more x r s) (sym (halts_as t (waits c) tt q))
-          (subst (λ (l : List Call). Again c l s.talk) (sym (halts_calls t (waits c) tt q)) (again_on c (f t).talk.calls (with_more more t) k))
-      go declined q k = subst (λ (x : Stop). Longer more x r s) (sym (halts_as t declined tt q)) tt
-      go overrun q k = subst (λ (x : Stop). Longer more x r s) (sym (halts_as t overrun tt q)) tt
+      go Going q k = subst (λ (u : Got A). Longer more r.talk.stop r (g u.value u.talk)) (sym k) ((second t).longer (f t).talk q)
+      go (Waits c) q k =
+          subst (λ (x : Stop). Longer more x r s) (sym (halts_as t (Waits c) tt q))
+          (subst (λ (l : List Call). Again c l s.talk) (sym (halts_calls t (Waits c) tt q)) (again_on c (f t).talk.calls (with_more more t) k))
+      go Declined q k = subst (λ (x : Stop). Longer more x r s) (sym (halts_as t Declined tt q)) tt
+      go Overrun q k = subst (λ (x : Stop). Longer more x r s) (sym (halts_as t Overrun tt q)) tt
 
   chain_steady : Steady more (λ t. g (f t).value (f t).talk)
   chain_steady =
@@ -128,22 +130,22 @@ module _ (more : List ℕ) (out : Out) where
   m = bytes_of out
 
   send_sticky : (s : Stop) (t : Talk) → Stopped s → send_at s m t ≡ t
-  send_sticky going t h = absurd h
-  send_sticky (waits c) t h = refl
-  send_sticky declined t h = refl
-  send_sticky overrun t h = refl
+  send_sticky Going t h = absurd h
+  send_sticky (Waits c) t h = refl
+  send_sticky Declined t h = refl
+  send_sticky Overrun t h = refl
 
   send_calls : (s : Stop) (t : Talk) → (send_at s m t).calls ≡ t.calls
-  send_calls going t = at (leb 102 (length t.messages))
+  send_calls Going t = at (leb 102 (length t.messages))
     where
       at : (b : Bool) → (send_room b m t).calls ≡ t.calls
       at true = refl
       at false = refl
-  send_calls (waits c) t = refl
-  send_calls declined t = refl
-  send_calls overrun t = refl
+  send_calls (Waits c) t = refl
+  send_calls Declined t = refl
+  send_calls Overrun t = refl
 
-  send_longer : (t : Talk) → t.stop ≡ going → (b : Bool) →
+  send_longer : (t : Talk) → t.stop ≡ Going → (b : Bool) →
       Longer more (send_room b m t).stop (got (tt {0}) (send_room b m t)) (got tt (send_room b m (with_more more t)))
   send_longer t q true = tt
   send_longer t q false =
@@ -167,10 +169,10 @@ module _ (x : ℕ) (l : List ℕ) (c : Call) where
   more = x ∷ l
 
   ask_halts : (s : Stop) (t : Talk) → Stopped s → ask_at s c t ≡ got no_reply t
-  ask_halts going t h = absurd h
-  ask_halts (waits d) t h = refl
-  ask_halts declined t h = refl
-  ask_halts overrun t h = refl
+  ask_halts Going t h = absurd h
+  ask_halts (Waits d) t h = refl
+  ask_halts Declined t h = refl
+  ask_halts Overrun t h = refl
 
   ask_grown : (t : Talk) → Grown t.calls (ask c t).talk.calls
   unfolding ask
@@ -189,12 +191,12 @@ module _ (x : ℕ) (l : List ℕ) (c : Call) where
       room_at_lem false = left_at (eqb (length t.left) 0)
 
       at : (s : Stop) → Grown t.calls (ask_at s c t).talk.calls
-      at going = room_at_lem (leb 337 (length t.calls))
-      at (waits d) = grown_same t.calls
-      at declined = grown_same t.calls
-      at overrun = grown_same t.calls
+      at Going = room_at_lem (leb 337 (length t.calls))
+      at (Waits d) = grown_same t.calls
+      at Declined = grown_same t.calls
+      at Overrun = grown_same t.calls
 
-  module _ (t : Talk) (q : t.stop ≡ going) where
+  module _ (t : Talk) (q : t.stop ≡ Going) where
     -- an answer that fits is taken from either line
     taken : is_unfit (answer_of t.left c.kind) ≡ false →
         ask_fit false c (answer_of t.left c.kind) (with_more more t) ≡ got_more more (ask_fit false c (answer_of t.left c.kind) t)
@@ -289,10 +291,10 @@ module _ (x : ℕ) (l : List ℕ) (driver name : ℕ) where
   noted_longer r s w e h = subst (λ (z : Stop). Longer (x ∷ l) z (noted r) (noted s)) (sym (noted_stop r ∙ e)) (at w h)
     where
       at : (w : Stop) → Longer (x ∷ l) w r s → Longer (x ∷ l) w (noted r) (noted s)
-      at going k = ap (λ (z : Got Reply). noted z) k ∙ noted_more r
-      at (waits c) k = subst (λ (z : List Call). Again c z (noted s).talk) (sym (noted_calls r)) (noted-again c r.talk.calls s k)
-      at declined k = tt
-      at overrun k = tt
+      at Going k = ap (λ (z : Got Reply). noted z) k ∙ noted_more r
+      at (Waits c) k = subst (λ (z : List Call). Again c z (noted s).talk) (sym (noted_calls r)) (noted-again c r.talk.calls s k)
+      at Declined k = tt
+      at Overrun k = tt
 
   open_if_steady : (b : Bool) → Steady (x ∷ l) (open_if b driver name)
   unfolding next ask

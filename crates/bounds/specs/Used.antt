@@ -4,7 +4,9 @@ use Rattle.std.proofs.Common.{subst, arith, div-mul-le_self, length-drop}
 use Rattle.lookup.specs.View.{View}
 use Rattle.drivers.specs.Answers.{answer_of, item_count}
 use Rattle.drivers.specs.AnswersLaws.{answer_there}
-use Rattle.drivers.specs.Talk.{Stop, going, waits, declined, overrun, Talk, Got, start, opening}
+use Rattle.drivers.specs.Talk.{Talk, Got, start, opening}
+use Rattle.drivers.specs.declared.line.Stop.{Stop}
+use Rattle.drivers.specs.declared.line.Stop.TheVariants.{Going, Waits, Declined, Overrun}
 use Rattle.drivers.specs.declared.Call.{Call}
 use Rattle.event.specs.declared.Timed.{Timed}
 use Rattle.definition.specs.Step.{Kept, Left, Ended, done, finish, step_if, refusal, act, step}
@@ -27,10 +29,10 @@ fair all =
     }
 
 finish-used : (s : Stop) (v : View) (k : Kept) (r : Got Left) (all : ℕ) → r.talk.used ≤ all → UsedOf all (finish s v k r).ended
-finish-used going v k r all h = omega (arith, div-mul-le_self r.talk.used 16)
-finish-used (waits c) v k r all h = tt
-finish-used declined v k r all h = tt
-finish-used overrun v k r all h = tt
+finish-used Going v k r all h = omega (arith, div-mul-le_self r.talk.used 16)
+finish-used (Waits c) v k r all h = tt
+finish-used Declined v k r all h = tt
+finish-used Overrun v k r all h = tt
 
 pub step-used : (v : View) (k : Kept) (e : Timed) (answers : List ℕ) → UsedOf (length answers) (step v k e answers).ended
 unfolding step

@@ -12,7 +12,9 @@ use Rattle.base.specs.Words.{le16}
 use Rattle.base.specs.Keyed.{any_of, all_of, no_twice}
 use Rattle.base.specs.Pigeon.{left_of_lem, right_of, all_so, all_append, once_append}
 use Rattle.drivers.specs.Answers.{count_at, item_at, items_of, item_fits, live_fits, list_if, live_list, to_live, answer_to, answer_of, item_count, is_unfit, is_list}
-use Rattle.drivers.specs.Talk.{Stop, going, waits, declined, overrun, Talk, next, Reply, ask_fit, ask_left, ask_room, ask_at, ask, ask_if as ask_when, open_for, use_call, plain_call, live_of}
+use Rattle.drivers.specs.Talk.{Talk, next, Reply, ask_fit, ask_left, ask_room, ask_at, ask, ask_if as ask_when, open_for, use_call, plain_call, live_of}
+use Rattle.drivers.specs.declared.line.Stop.{Stop}
+use Rattle.drivers.specs.declared.line.Stop.TheVariants.{Going, Waits, Declined, Overrun}
 use Rattle.drivers.specs.declared.Answer.{Answer}
 use Rattle.drivers.specs.declared.Answer.TheVariants as answer
 use Rattle.drivers.specs.declared.Call.{Call}
@@ -140,10 +142,10 @@ module _ (driver which : ℕ) (t : Talk) where
   room_once false = left_once (eqb (length t.left) 0)
 
   at_once : (s : Stop) → Once (ask_at s call t).value
-  at_once going = room_once (leb 337 (length t.calls))
-  at_once (waits d) = none_once
-  at_once declined = none_once
-  at_once overrun = none_once
+  at_once Going = room_once (leb 337 (length t.calls))
+  at_once (Waits d) = none_once
+  at_once Declined = none_once
+  at_once Overrun = none_once
 
   when_once : (b : Bool) → Once (ask_when b call t).value
   unfolding ask

@@ -1,143 +1,57 @@
 #![tactic(auto)]
 
 // What a button is bound to: by the profile, or else by the bank's driver.
-ghost use Rattle.std.specs.Prelude.{◌≡◌, ◌≤◌};
+ghost use Rattle.std.specs.Prelude.{◌≡◌};
 ghost use Rattle.drivers.specs.Talk.{got};
 ghost use Rattle.drivers.specs.Shown.{shown};
-ghost use Rattle.definition.specs.Buttons.{default_button, run_bound, run_command, is_scene, rec_loads};
+ghost use Rattle.definition.specs.Buttons.{default_button, run_command, rec_loads};
 ghost use Rattle.rig.specs.Seen.{rig_in};
 
 use drivers::Io;
-use lookup::Command;
+use lookup::{Command, Rec};
 use rig::Current;
 
-#[derive(Clone, Copy)]
-struct Offered {
-    io: Io,
-    bound: Option<Command>,
-}
-
 // What the bank's driver says this button does, if the profile did not say. The driver is opened for it; its buttons are no call.
-fn default_button(
-    answers: &[u8],
-    calls: &mut [u8; 5392],
-    messages: &mut [u8; 306],
-    io: Io,
-    profile: &[u8],
-    here: Current,
-    kind: u8,
-) -> Offered
-    requires { here.strips.count ≤ 8 }
-    ensures { got result.bound (shown answers.now result.io calls.new messages.new) ≡ default_button (rig_in profile.now here) kind (shown answers.now io calls.old messages.old) }
+#[tactic(auto, unfolding(definition::specs::Buttons::default_button, drivers::specs::Talk::next), using(lookup::specs::NamedLaws::is_absent, lookup::specs::NamedLaws::is_there, lookup::specs::NamedLaws::its_name))]
+fn default_button(io: &mut Io<'_>, here: &Current<'_>, kind: u8) -> Option<Command>
+    ensures { got result (shown io.new) ≡ default_button (rig_in here.now) kind (shown io.old) }
 {
-    let name = rig::here::bank_driver(profile, here);
-    if name == 65535 {
-        return Offered {
-            io: io,
-            bound: None,
-        };
+    let driver = here.bank_driver()?;
+    if !io.open(driver) {
+        return None;
     }
-    let driver = name as u8;
-    let t = drivers::open(answers, calls, messages, io, driver);
-    let u = t.io;
-    let command = lookup::default_command(profile, driver, kind);
-    if !t.ok | (command == 65535) {
-        return Offered { io: u, bound: None };
-    }
-    let target = rig::here::first_target(profile, here, driver);
-    let c = Command {
-        driver: driver,
-        target: target,
-        command: command,
+    let command = lookup::default_command(here.profile, driver, kind)?;
+    let target = here.first_target(driver).unwrap_or(lookup::ABSENT);
+    Some(Command {
+        driver,
+        target,
+        command,
+    })
+}
+
+// Runs what the button is bound to, or what the bank's driver does with it. The kind is the profile's number: a narrower type would ask more of callers. A
+// `match` and no `or_else`: its closure would hold the line.
+#[tactic(auto, unfolding(definition::specs::Buttons::run_command))]
+pub fn run_command(io: &mut Io<'_>, here: &Current<'_>, kind: u8)
+    ensures { shown io.new ≡ run_command (rig_in here.now) kind (shown io.old) }
+{
+    let bound = match lookup::transport_in_reach(here.profile, here.bank, kind) {
+        None => default_button(io, here, kind),
+        bound => bound,
     };
-    Offered {
-        io: u,
-        bound: Some(c),
-    }
-}
-
-fn run_bound(
-    answers: &[u8],
-    calls: &mut [u8; 5392],
-    messages: &mut [u8; 306],
-    io: Io,
-    bound: Option<Command>,
-) -> Io
-    ensures { shown answers.now result calls.new messages.new ≡ run_bound bound (shown answers.now io calls.old messages.old) }
-{
-    match bound {
-        Some(c) => {
-            let t = drivers::command(answers, calls, messages, io, c.driver, c.target, c.command);
-            t.io
-        }
-        None => io,
-    }
-}
-
-// Runs what the button is bound to, or what the bank's driver does with it.
-pub fn run_command(
-    answers: &[u8],
-    calls: &mut [u8; 5392],
-    messages: &mut [u8; 306],
-    io: Io,
-    profile: &[u8],
-    here: Current,
-    kind: u8,
-) -> Io
-    requires { here.strips.count ≤ 8 }
-    ensures { shown answers.now result calls.new messages.new ≡ run_command (rig_in profile.now here) kind (shown answers.now io calls.old messages.old) }
-{
-    let bound = lookup::transport_in_reach(profile, here.bank, kind);
-    let None = bound else {
-        return run_bound(answers, calls, messages, io, bound);
-    };
-    let o = default_button(answers, calls, messages, io, profile, here, kind);
-    let u = o.io;
-    let b = o.bound;
-    run_bound(answers, calls, messages, u, b)
-}
-
-// ── rec ──
-
-#[derive(Clone, Copy)]
-pub struct Loads {
-    pub io: Io,
-    pub scene: bool,
-}
-
-fn is_scene(bound: Option<Command>) -> bool
-    ensures { result ≡ is_scene bound }
-{
-    match bound {
-        Some(c) => c.command == 1,
-        None => false,
+    if let Some(c) = bound {
+        io.command(c.driver, c.target, c.command);
     }
 }
 
 // Whether R loads a scene: the profile says so, or says nothing and the bank's driver does.
-pub fn rec_loads(
-    answers: &[u8],
-    calls: &mut [u8; 5392],
-    messages: &mut [u8; 306],
-    io: Io,
-    profile: &[u8],
-    here: Current,
-) -> Loads
-    requires { here.strips.count ≤ 8 }
-    ensures { got result.scene (shown answers.now result.io calls.new messages.new) ≡ rec_loads (rig_in profile.now here) (shown answers.now io calls.old messages.old) }
+#[tactic(auto, unfolding(definition::specs::Buttons::rec_loads, drivers::specs::Talk::next))]
+pub fn rec_loads(io: &mut Io<'_>, here: &Current<'_>) -> bool
+    ensures { got result (shown io.new) ≡ rec_loads (rig_in here.now) (shown io.old) }
 {
-    let action = lookup::rec_action(profile, here.bank);
-    if action != 0 {
-        return Loads {
-            io: io,
-            scene: action == 1,
-        };
-    }
-    let o = default_button(answers, calls, messages, io, profile, here, 0);
-    let u = o.io;
-    let b = o.bound;
-    Loads {
-        io: u,
-        scene: is_scene(b),
+    match lookup::rec_action(here.profile, here.bank) {
+        None => default_button(io, here, 0).is_some_and(|c| c.command == 1),
+        Some(Rec::Scene) => true,
+        Some(Rec::Other(_)) => false,
     }
 }

@@ -2,7 +2,7 @@
 use Rattle.std.specs.Prelude.{ℕ, ◌+◌, List, [], Bool, true, false, ◌||◌, eqb, Float, None, Option, Some}
 use Rattle.base.specs.Choice.{pick}
 use Rattle.protocol.specs.Protocol.{kind_of, channel_of}
-use Rattle.lookup.specs.Lookup.{transport_of, before}
+use Rattle.lookup.specs.Lookup.{or_absent, transport_of, before}
 use Rattle.drivers.specs.Talk.{Talk, Got, Act, got, next, open_for, command_of}
 use Rattle.session.specs.Session.{Hushed, targets_of}
 use Rattle.session.specs.declared.Lamps.{Lamps}
@@ -25,10 +25,6 @@ abbrev pub pressed : ℕ → Lamps → List Hushed → Bool → Bool → Pressed
 pressed b l s a c = record { bank = b; lamps = l; silenced = s; moved = a; saved = c }
 
 -- ── commands ──
-
-abbrev pub or_absent : Option ℕ → ℕ
-or_absent None = 65535
-or_absent (Some t) = t
 
 -- the default button's command, with the target of the bank's first fader on the driver
 abbrev pub offered : Bool → Here → ℕ → ℕ → Option Command

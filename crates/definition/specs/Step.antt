@@ -4,7 +4,9 @@ use Rattle.base.specs.Choice.{pick}
 use Rattle.protocol.specs.declared.Event.{Event}
 use Rattle.protocol.specs.declared.Event.TheVariants as event
 use Rattle.lookup.specs.View.{View}
-use Rattle.drivers.specs.Talk.{Stop, going, waits, declined, overrun, Got, Act, got, next, start}
+use Rattle.drivers.specs.Talk.{Got, Act, got, next, start}
+use Rattle.drivers.specs.declared.line.Stop.{Stop}
+use Rattle.drivers.specs.declared.line.Stop.TheVariants.{Going, Waits, Declined, Overrun}
 use Rattle.drivers.specs.declared.Call.{Call}
 use Rattle.session.specs.Session.{Hushed, fresh_session, targets_of, seen_line, seen_turns, seen_silenced, seen_strips, no_marks, unmark_bank}
 use Rattle.session.specs.declared.Session.{Session}
@@ -191,12 +193,12 @@ stepped e k = record { ended = e; kept = k }
 
 -- "The outcome says if the event saved (remember 1 only)"
 abbrev pub finish : Stop → View → Kept → Got Left → Stepped
-finish going v k r =
+finish Going v k r =
     stepped (done r.talk.messages r.talk.calls (r.talk.used / 16) (r.value.saved && v.remember))
     (kept r.value.site r.value.desk r.value.lamps r.value.silenced r.talk.opened)
-finish (waits c) v k r = stepped (waiting c) k
-finish declined v k r = stepped (refused 14) k
-finish overrun v k r = stepped (refused 14) k
+finish (Waits c) v k r = stepped (waiting c) k
+finish Declined v k r = stepped (refused 14) k
+finish Overrun v k r = stepped (refused 14) k
 
 abbrev pub finished : View → Kept → Got Left → Stepped
 finished v k r = finish r.talk.stop v k r

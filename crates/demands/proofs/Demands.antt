@@ -50,7 +50,7 @@ unfolding Runs final
 ends_so p ok s shaped [] z q = ap (seen p) q
 ends_so p ok s shaped (x ∷ xs) z (d, q) =
     let next : seen p x.result.session ≡ (step_of step (view_of p) (seen p s) (offer_of x).event x.answers).kept =
-    d.session ∙ keeps_so p ok s shaped x.event x.answers (length x.messages) (length x.calls) in
+    d.leaves.session ∙ keeps_so p ok s shaped x.event x.answers (length x.messages) (length x.calls) in
     ap (λ (k : Kept). final step (view_of p) k (map offer_of xs)) (sym next)
     ∙ ends_so p ok x.result.session (stays-shaped _ _ _ _ _ _ _ _ d shaped) xs z q
 

@@ -4,11 +4,11 @@ use native.Mathlib.Omega.{arith}
 use native.Mathlib.Nat.{add-zero, zero-add, add_assoc}
 use native.Mathlib.Numerals.{add-one}
 use mathlib.Core.Path.{◌≡◌, refl, sym, ap, ◌∙◌, subst}
-use mathlib.Core.Bool.{Bool, true, false}
+use mathlib.Core.Bool.{Bool, true, false, true≢false, false≢true}
 use mathlib.Core.List.{List, [], ◌∷◌, ◌++◌, map, map-append}
 use lib.Dec.{leb, eqb}
-use lib.ListN.{length, drop, take, set, get_or, length-drop, length-take, length-set, get_or-append, get_or-eq_default}
-use lib.Seq.{take_all, drop-drop, get_or-append-add, get_or-take, get_or-drop, take-suc-set, set_out, sets-eq}
+use lib.ListN.{length, drop, take, set, get_or, length-drop, length-take, length-set, get_or-append}
+use lib.Seq.{take_all, drop-drop, get_or-append-add, get_or-take, set_out, sets-eq}
 use borrow.Author.Tests.{lt-ltb, le-ltb, le-leb, lt-leb, eq-eqb, ne_eqb, leb-true, leb-false}
 use borrow.Rule.Slice.PartMut.{put_mid}
 use Rattle.base.specs.Range.{all}
@@ -18,17 +18,37 @@ use Rattle.base.specs.Tail.{over, at_front, tail_over}
 use Rattle.protocol.specs.Protocol.{bytes_of}
 use Rattle.protocol.specs.declared.Out.{Out}
 use Rattle.protocol.specs.declared.Out.TheVariants.{Led, Position}
-use Rattle.drivers.specs.Answers.{count_at, item_at, items_of, list_if, answer_of, is_unfit, item_count}
+use Rattle.std.proofs.Common.{cond}
+use Rattle.drivers.specs.Answers.{item_fits, live_fits, count_at, item_at, items_of, list_if, answer_of, is_unfit, is_list, item_count}
 use Rattle.drivers.specs.AnswersLaws.{answer_bounded, answer_there, item_most}
-use Rattle.drivers.specs.Talk.{going, Got, got, Reply, name_of, plain_call, ask, ask_room, ask_left, ask_fit, is_open, opening, send, send_room}
-use Rattle.drivers.specs.Shown.{call_bytes, call_at, calls_in, message_at, messages_in, stop_in, shown, halt_of, noted_of, opened_in, sent_one, roomless, reply_in, Listing}
+use Rattle.drivers.specs.Kinds.{number_of}
+use Rattle.drivers.specs.Talk.{is_going, is_open, opening, got, no_reply, name_of, plain_call, ask, ask_room, ask_left, ask_fit, send, send_room}
+use Rattle.drivers.specs.Shown.{call_bytes, call_at, calls_in, message_at, messages_in, shown, stopped, opened_in, sent_with, reply_in, Listing}
 use Rattle.drivers.specs.BytesLaws.{calls_length, messages_length}
 use Rattle.drivers.specs.declared.Call.{Call}
-use Rattle.drivers.specs.declared.Io.{Io}
-use Rattle.drivers.specs.declared.LiveFader.{LiveFader}
-use Rattle.drivers.specs.declared.line.Got.{Got as Result}
+use Rattle.drivers.specs.declared.kind.Kind.{Kind}
+use Rattle.drivers.specs.contracts.kind.Kind.{the_type}
+use denote.Enum.Declared.{tag_of}
+use Rattle.drivers.specs.declared.kind.Kind.TheVariants.{Open, Read, Write, Toggle, Command, Playing, Scenes, Current, Load, Live}
+use Rattle.drivers.specs.declared.line.Io.{Io}
+use Rattle.drivers.specs.declared.line.Reply.{Reply}
+use Rattle.drivers.specs.declared.line.Stop.{Stop}
+use Rattle.drivers.specs.declared.line.Stop.TheVariants.{Going, Waits, Declined, Overrun}
 use Rattle.drivers.specs.declared.Answer.{Answer}
 use Rattle.drivers.specs.declared.Answer.TheVariants as answer
+
+-- a kind's place is its number
+pub kind_number : (k : Kind) → tag_of the_type k ≡ number_of k
+kind_number Open = refl
+kind_number Read = refl
+kind_number Write = refl
+kind_number Toggle = refl
+kind_number Command = refl
+kind_number Playing = refl
+kind_number Scenes = refl
+kind_number Current = refl
+kind_number Load = refl
+kind_number Live = refl
 
 -- ── bytes that were written over a list from place a on ──
 
@@ -82,10 +102,6 @@ whole64 n =
     ap (λ (x : ℕ). x + 4294967296 * le32 (bytes32 (n / 4294967296)) 0) (whole32 (n % 4294967296))
     ∙ ap (λ (x : ℕ). n % 4294967296 + 4294967296 * x) (whole32 (n / 4294967296))
     ∙ halves64 n
-
--- a number in the part of a list from place n on
-pub drop16 : (n : ℕ) (s : List ℕ) (j : ℕ) → le16 (drop n s) j ≡ le16 s (n + j)
-drop16 n s j = rw (get_or-drop n s j 0, get_or-drop n s (j + 1) 0, add_assoc n j 1)
 
 -- ── calls in the buffer ──
 
@@ -196,166 +212,132 @@ module _ (ans : List ℕ) (n : ℕ) where
   items-part a k e = e ∙ ap (item_count a) (part-all ans n)
 
 -- no items
-pub no_listing : (ans : List ℕ) (kind from : ℕ) → Listing ans kind from 0
-no_listing ans kind from = record { within = λ i l. absurd (omega arith); scenes = omega arith; live = λ _. omega arith }
+pub no_listing : (kind : ℕ) (r : Reply) → r.count ≡ 0 → Listing kind r
+no_listing kind r e = record { within = λ i l. absurd (omega arith); scenes = omega arith; live = λ _. omega arith; none = λ _. e }
 
-pub halted_listing : (ans : List ℕ) (kind : ℕ) (io : Io) (c : Call) (why : ℕ) (r : Result) → r ≡ halt_of io c why → Listing ans kind r.from r.count
-halted_listing ans kind io c why r e = rw e (no_listing ans kind 0)
+no_count : (r : Reply) → is_list r.answer ≡ false → item_count r.answer r.part.now ≡ 0
+unfolding item_count
+no_count r f = rw f
 
-pub listing : (ans : List ℕ) (kind at : ℕ) (a : Answer) (n : ℕ) → at < length ans → a ≡ answer_of (drop at ans) kind → is_unfit a ≡ false → n ≡ item_count a (drop at ans) → Listing ans kind at n
-listing ans kind at a n l e u q =
-    let w : 16 + 16 * n ≤ length (drop at ans) = answer_there (drop at ans) kind a n e u q in
-    let m : (item_count a (drop at ans) ≤ 128) × (kind ≡ 9 → item_count a (drop at ans) ≤ 32) = item_most (drop at ans) kind a (rw e (answer_bounded (drop at ans) kind)) in
-    record { within = λ i h. omega (arith, length-drop at ans); scenes = rw q m.0; live = λ k. rw q (m.1 k) }
+-- what a call that is answered hands on
+pub listing : (kind : ℕ) (r : Reply) → r.answer ≡ answer_of r.part.now kind → is_unfit r.answer ≡ false → r.count ≡ item_count r.answer r.part.now → Listing kind r
+listing kind r e u q =
+    let w : 16 + 16 * r.count ≤ length r.part.now = answer_there r.part.now kind r.answer r.count e u q in
+    let m : (item_count r.answer r.part.now ≤ 128) × (kind ≡ 9 → item_count r.answer r.part.now ≤ 32) =
+    item_most r.part.now kind r.answer (rw e (answer_bounded r.part.now kind))
+    in record { within = λ i h. omega arith; scenes = rw q m.0; live = λ k. rw q (m.1 k); none = λ f. q ∙ no_count r f }
 
 -- ── a call ──
 
-module _ (ans cs ms : List ℕ) (io : Io) (c : Call) where
-  -- what is shown of a call's result
-  abbrev pub result : Result → List ℕ → Got Reply
-  result r cs' = got (reply_in ans r.answer r.from r.count) (shown ans r.io cs' ms)
-
-  goes : stop_in io.stop io.due ≡ going → ask c (shown ans io cs ms) ≡ ask_room (leb 337 io.asked) c (shown ans io cs ms)
+module _ (io : Io) (c : Call) where
+  goes : is_going io.stop ≡ true → ask c (shown io) ≡ ask_room (leb 337 io.asked) c (shown io)
   unfolding shown ask
-  goes e = rw (e, calls_length io.asked cs)
-
-  going-at : io.stop ≡ 0 → stop_in io.stop io.due ≡ going
-  going-at z = ap (λ n. stop_in n io.due) z
-
-  pub ask_stopped : (io.stop ≡ 0 → ⊥) → got (reply_in ans answer.Refused 0 0) (shown ans io cs ms) ≡ ask c (shown ans io cs ms)
-  unfolding shown ask reply_in items_of
-  ask_stopped h = go io.stop refl
+  goes e = go io.stop refl e ∙ rw (calls_length io.asked io.calls)
     where
-      go : (n : ℕ) → io.stop ≡ n → got (reply_in ans answer.Refused 0 0) (shown ans io cs ms) ≡ ask c (shown ans io cs ms)
-      go zero z = absurd (h z)
-      go (suc zero) z = rw z
-      go (suc (suc zero)) z = rw z
-      go (suc (suc (suc n))) z = rw z
+      go : (s : Stop) → io.stop ≡ s → is_going s ≡ true → ask c (shown io) ≡ ask_room (leb 337 (length (calls_in io.asked io.calls))) c (shown io)
+      go Going z q = rw z
+      go (Waits d) z q = absurd (false≢true q)
+      go Declined z q = absurd (false≢true q)
+      go Overrun z q = absurd (false≢true q)
 
-  pub ask_full : (r : Result) → r ≡ halt_of io c 3 → io.stop ≡ 0 → 337 ≤ io.asked → result r cs ≡ ask c (shown ans io cs ms)
-  unfolding shown reply_in items_of
-  ask_full r e z l = ap (λ r. result r cs) e ∙ sym (goes (going-at z) ∙ rw (le-leb 337 io.asked l))
+  -- nothing was asked, and the line is this one
+  nothing : (r : Reply) (u : Io) → r.answer ≡ answer.Refused → r.count ≡ 0 → got (reply_in r) (shown u) ≡ got no_reply (shown u)
+  unfolding reply_in items_of
+  nothing r u e q = rw (e, q)
 
-  left_of_lem : io.asked < 337 → io.stop ≡ 0 → ask c (shown ans io cs ms) ≡ ask_left (leb (length ans) io.read) c (shown ans io cs ms)
+  pub ask_stopped : (r : Reply) → r.answer ≡ answer.Refused → r.count ≡ 0 → is_going io.stop ≡ false → got (reply_in r) (shown io) ≡ ask c (shown io)
+  unfolding shown ask
+  ask_stopped r e q f = nothing r io e q ∙ go io.stop refl f
+    where
+      go : (s : Stop) → io.stop ≡ s → is_going s ≡ false → got no_reply (shown io) ≡ ask c (shown io)
+      go Going z g = absurd (true≢false g)
+      go (Waits d) z g = rw z
+      go Declined z g = rw z
+      go Overrun z g = rw z
+
+  pub ask_full : (r : Reply) (u : Io) → r.answer ≡ answer.Refused → r.count ≡ 0 → u ≡ stopped Overrun io → is_going io.stop ≡ true → 337 ≤ io.asked →
+      got (reply_in r) (shown u) ≡ ask c (shown io)
   unfolding shown
-  left_of_lem l z = goes (going-at z) ∙ rw (lt-leb 337 io.asked l, none_left ans io.read)
+  ask_full r u e q p z l = nothing r u e q ∙ rw p (sym (goes z ∙ rw (le-leb 337 io.asked l)))
 
-  pub ask-waits : (r : Result) → r ≡ halt_of io c 1 → io.stop ≡ 0 → io.asked < 337 → length ans ≤ io.read → result r cs ≡ ask c (shown ans io cs ms)
-  unfolding shown reply_in items_of
-  ask-waits r e z l h = ap (λ r. result r cs) e ∙ sym (left_of_lem l z ∙ rw (le-leb (length ans) io.read h))
-
-  fit_of : (a : Answer) → a ≡ answer_of (drop io.read ans) c.kind → io.asked < 337 → io.stop ≡ 0 → io.read < length ans →
-      ask c (shown ans io cs ms) ≡ ask_fit (is_unfit a) c a (shown ans io cs ms)
+  left_of_lem : io.asked < 337 → is_going io.stop ≡ true → ask c (shown io) ≡ ask_left (leb (length io.answers.now) io.read) c (shown io)
   unfolding shown
-  fit_of a e l z h = left_of_lem l z ∙ rw (lt-leb (length ans) io.read h, ← e)
+  left_of_lem l z = goes z ∙ rw (lt-leb 337 io.asked l, none_left io.answers.now io.read)
 
-  pub ask-declined : (r : Result) (a : Answer) → r ≡ halt_of io c 2 → a ≡ answer_of (drop io.read ans) c.kind → is_unfit a ≡ true →
-      io.stop ≡ 0 → io.asked < 337 → io.read < length ans → result r cs ≡ ask c (shown ans io cs ms)
-  unfolding shown reply_in items_of
-  ask-declined r a e q u z l h = ap (λ r. result r cs) e ∙ sym (fit_of a q l z h ∙ rw u)
+  pub ask-waits : (r : Reply) (u : Io) → r.answer ≡ answer.Refused → r.count ≡ 0 → u ≡ stopped (Waits c) io → is_going io.stop ≡ true → io.asked < 337 →
+      length io.answers.now ≤ io.read → got (reply_in r) (shown u) ≡ ask c (shown io)
+  unfolding shown
+  ask-waits r u e q p z l h = nothing r u e q ∙ rw p (sym (left_of_lem l z ∙ rw (le-leb (length io.answers.now) io.read h)))
 
-  made : (a : Answer) (n : ℕ) → n ≡ item_count a (drop io.read ans) → io.asked < 337 → 5392 ≤ length cs →
-      got (reply_in ans a io.read n) (shown ans (noted_of io n) (over cs (16 * io.asked) (call_bytes c)) ms) ≡ ask_fit false c a (shown ans io cs ms)
+  fit_of : (a : Answer) → a ≡ answer_of (drop io.read io.answers.now) c.kind → io.asked < 337 → is_going io.stop ≡ true → io.read < length io.answers.now →
+      ask c (shown io) ≡ ask_fit (is_unfit a) c a (shown io)
+  unfolding shown
+  fit_of a e l z h = left_of_lem l z ∙ rw (lt-leb (length io.answers.now) io.read h, ← e)
+
+  pub ask-declined : (r : Reply) (u : Io) (a : Answer) → r.answer ≡ answer.Refused → r.count ≡ 0 → u ≡ stopped Declined io →
+      a ≡ answer_of (drop io.read io.answers.now) c.kind → is_unfit a ≡ true → is_going io.stop ≡ true → io.asked < 337 → io.read < length io.answers.now →
+      got (reply_in r) (shown u) ≡ ask c (shown io)
+  unfolding shown
+  ask-declined r u a e q p f g z l h = nothing r u e q ∙ rw p (sym (fit_of a f l z h ∙ rw g))
+
+  -- the line once the call is made, and its n items are read
+  abbrev pub made_in : ℕ → List ℕ → Io
+  made_in n calls =
+      record {
+        answers = io.answers;
+        calls = calls;
+        messages = io.messages;
+        read = io.read + (16 + 16 * n);
+        asked = io.asked + 1;
+        sent = io.sent;
+        opened = io.opened;
+        stop = io.stop;
+      }
+
+  made : (r : Reply) → r.part.now ≡ drop io.read io.answers.now → r.count ≡ item_count r.answer (drop io.read io.answers.now) → io.asked < 337 →
+      5392 ≤ length io.calls →
+      got (reply_in r) (shown (made_in r.count (over io.calls (16 * io.asked) (call_bytes c)))) ≡ ask_fit false c r.answer (shown io)
   unfolding shown reply_in
-  made a n q l k = rw (calls_more cs io.asked c (omega arith), ← q, drop-drop (16 + 16 * n) io.read ans)
+  made r d q l k = rw (d, calls_more io.calls io.asked c (omega arith), q, drop-drop (16 + 16 * item_count r.answer (drop io.read io.answers.now)) io.read io.answers.now)
 
-  pub ask-made : (u : Io) (a : Answer) (n : ℕ) (w : List ℕ) → a ≡ answer_of (drop io.read ans) c.kind → is_unfit a ≡ false → n ≡ item_count a (drop io.read ans) →
-      u ≡ noted_of io n → w ≡ at_front (call_bytes c) (take (length cs - 16 * io.asked) (drop (16 * io.asked) cs)) →
-      io.stop ≡ 0 → io.asked < 337 → io.read < length ans → 5392 ≤ length cs →
-      got (reply_in ans a io.read n) (shown ans u (put_mid (16 * io.asked) (length cs - 16 * io.asked) cs w) ms) ≡ ask c (shown ans io cs ms)
-  ask-made u a n w e f q p v z l h k =
-      rw (p, v, tail_over cs (call_bytes c) (16 * io.asked) (omega arith)) (made a n q l k ∙ sym (fit_of a e l z h ∙ rw f))
+  pub ask-made : (r : Reply) (w : List ℕ) → r.part.now ≡ drop io.read io.answers.now → r.answer ≡ answer_of (drop io.read io.answers.now) c.kind →
+      is_unfit r.answer ≡ false → r.count ≡ item_count r.answer (drop io.read io.answers.now) →
+      w ≡ at_front (call_bytes c) (take (5392 - 16 * io.asked) (drop (16 * io.asked) io.calls)) →
+      is_going io.stop ≡ true → io.asked < 337 → io.read < length io.answers.now → length io.calls ≡ 5392 →
+      got (reply_in r) (shown (made_in r.count (put_mid (16 * io.asked) (5392 - 16 * io.asked) io.calls w))) ≡ ask c (shown io)
+  ask-made r w d e f q v z l h k =
+      let m : put_mid (16 * io.asked) (5392 - 16 * io.asked) io.calls w ≡ over io.calls (16 * io.asked) (call_bytes c) =
+      rw v (rw k at (tail_over io.calls (call_bytes c) (16 * io.asked) (omega arith)))
+      in rw m (made r d q l (omega arith) ∙ sym (fit_of r.answer e l z h ∙ rw f))
 
 -- ── a message ──
 
-module _ (ans cs ms : List ℕ) (io : Io) (o : Out) where
-  send-goes : io.stop ≡ 0 → send o (shown ans io cs ms) ≡ send_room (leb 102 io.sent) (bytes_of o) (shown ans io cs ms)
+module _ (io : Io) where
+  send_stopped : (o : Out) (s : Stop) → io.stop ≡ s → is_going s ≡ false → shown io ≡ send o (shown io)
   unfolding shown send
-  send-goes z = rw (ap (λ n. stop_in n io.due) z, messages_length io.sent ms)
+  send_stopped o Going z g = absurd (true≢false g)
+  send_stopped o (Waits d) z g = rw z
+  send_stopped o Declined z g = rw z
+  send_stopped o Overrun z g = rw z
 
-  pub send_stopped : (io.stop ≡ 0 → ⊥) → shown ans io cs ms ≡ send o (shown ans io cs ms)
+  send-goes : (o : Out) (s : Stop) → io.stop ≡ s → is_going s ≡ true → send o (shown io) ≡ send_room (leb 102 io.sent) (bytes_of o) (shown io)
   unfolding shown send
-  send_stopped h = go io.stop refl
-    where
-      go : (n : ℕ) → io.stop ≡ n → shown ans io cs ms ≡ send o (shown ans io cs ms)
-      go zero z = absurd (h z)
-      go (suc zero) z = rw z
-      go (suc (suc zero)) z = rw z
-      go (suc (suc (suc n))) z = rw z
+  send-goes o Going z g = rw (z, messages_length io.sent io.messages)
+  send-goes o (Waits d) z g = absurd (false≢true g)
+  send-goes o Declined z g = absurd (false≢true g)
+  send-goes o Overrun z g = absurd (false≢true g)
 
-  pub send_full : (u : Io) → u ≡ roomless io → io.stop ≡ 0 → 102 ≤ io.sent → shown ans u cs ms ≡ send o (shown ans io cs ms)
+  pub no_place : is_going io.stop ≡ false → (o : Out) → shown io ≡ send o (shown io)
+  no_place g o = send_stopped o io.stop refl g
+
+  pub no_room : is_going io.stop ≡ true → 102 ≤ io.sent → (o : Out) → shown (stopped Overrun io) ≡ send o (shown io)
   unfolding shown
-  send_full u e z l = ap (λ u. shown ans u cs ms) e ∙ sym (send-goes z ∙ rw (le-leb 102 io.sent l))
+  no_room g l o = sym (send-goes o io.stop refl g ∙ rw (le-leb 102 io.sent l))
 
-  sent : io.sent < 102 → 306 ≤ length ms →
-      shown ans (sent_one io) cs (over ms (3 * io.sent) (bytes_of o)) ≡ send_room false (bytes_of o) (shown ans io cs ms)
+  pub placed : is_going io.stop ≡ true → io.sent < 102 → length io.messages ≡ 306 → (o : Out) →
+      shown (sent_with (over io.messages (3 * io.sent) (bytes_of o)) io) ≡ send o (shown io)
   unfolding shown
-  sent l k = rw (messages_more ms io.sent o (omega arith))
-
-  pub send-made : (u : Io) (w : List ℕ) → u ≡ sent_one io → w ≡ at_front (bytes_of o) (take (length ms - 3 * io.sent) (drop (3 * io.sent) ms)) →
-      io.stop ≡ 0 → io.sent < 102 → 306 ≤ length ms → shown ans u cs (put_mid (3 * io.sent) (length ms - 3 * io.sent) ms w) ≡ send o (shown ans io cs ms)
-  send-made u w e v z l k =
-      rw (e, v, tail_over ms (bytes_of o) (3 * io.sent) (omega arith)) (sent l k ∙ sym (send-goes z ∙ rw (lt-leb 102 io.sent l)))
-
--- ── what a function may look at, and the one thing that is set apart from a call ──
-
-pub is_open_lem : (ans cs ms : List ℕ) (io : Io) (d : ℕ) → is_open d (shown ans io cs ms) ≡ get_or io.opened d false
-unfolding shown is_open
-is_open_lem ans cs ms io d = refl
-
--- past the places there are, a driver is never open, and opening it changes nothing
-module _ (io : Io) (d : ℕ) (h : length io.opened ≡ 16) (l : 16 ≤ d) where
-  past : length io.opened ≤ d
-  past = omega arith
-
-  pub past_closed : false ≡ get_or io.opened d false
-  past_closed = sym (get_or-eq_default io.opened false past)
-
-  pub past_same : io ≡ opened_in io d
-  past_same = rw (set_out io.opened d true past)
-
-pub opens : (ans cs ms : List ℕ) (io : Io) (d : ℕ) → opening d (shown ans io cs ms) ≡ shown ans (opened_in io d) cs ms
-unfolding shown opening
-opens ans cs ms io d = refl
-
--- ── lists that are handed on ──
-
--- one more element of an array's first i
-module _ {A : Type 0} where
-  pub seen_more : (l xs : List A) (i : ℕ) (v : A) → i < length l → take i l ≡ xs → take (i + 1) (set l i v) ≡ xs ++ (v ∷ [])
-  seen_more l xs i v h e = rw (add-one, take-suc-set, e)
-
-pub items_more : (part : List ℕ) (i : ℕ) → items_of (i + 1) part ≡ items_of i part ++ (item_at part i ∷ [])
-unfolding items_of
-items_more part i = rw add-one
-
-pub names_more : (part : List ℕ) (i : ℕ) → map name_of (items_of (i + 1) part) ≡ map name_of (items_of i part) ++ (le16 part (16 * i + 18) ∷ [])
-names_more part i = ap (map name_of) (items_more part i) ∙ map-append name_of (items_of i part) (item_at part i ∷ [])
-
-pub name-seen : (ans list : List ℕ) (from i v : ℕ) → i < length list → take i list ≡ map name_of (items_of i (drop from ans)) →
-    v ≡ le16 ans (from + (16 * i + 18)) → take (i + 1) (set list i v) ≡ map name_of (items_of (i + 1) (drop from ans))
-name-seen ans list from i v h e q = seen_more list _ i v h e ∙ sym (names_more (drop from ans) i ∙ rw (drop16 from ans (16 * i + 18), ← q))
-
-pub fader-seen : (ans : List ℕ) (list : List LiveFader) (from i : ℕ) (v : LiveFader) → i < length list → take i list ≡ items_of i (drop from ans) →
-    v ≡ item_at (drop from ans) i → take (i + 1) (set list i v) ≡ items_of (i + 1) (drop from ans)
-fader-seen ans list from i v h e q = seen_more list _ i v h e ∙ sym (items_more (drop from ans) i ∙ rw (← q))
-
--- item i, read from the whole of the answers
-module _ (ans : List ℕ) (from i : ℕ) where
-  item16 : (k j : ℕ) → from + (16 * i + 16) + k ≡ from + j → le16 ans (from + (16 * i + 16) + k) ≡ le16 (drop from ans) j
-  item16 k j e = rw e (sym (drop16 from ans j))
-
-  pub fader_there : (n t l g m : ℕ) → n ≡ get_or ans (from + (16 * i + 16) + 1) 0 → t ≡ le16 ans (from + (16 * i + 16) + 2) → l ≡ le16 ans (from + (16 * i + 16) + 4) →
-      g ≡ le16 ans (from + (16 * i + 16) + 6) → m ≡ le16 ans (from + (16 * i + 16) + 8) →
-      ◌≡◌ {A = LiveFader} (record { number = n; target = t; label = l; group = g; mute = m }) (item_at (drop from ans) i)
-  fader_there n t l g m e₁ e₂ e₃ e₄ e₅ =
-      let q : from + (16 * i + 16) + 1 ≡ from + (16 * i + 17) = omega arith in
-      let f₁ : n ≡ get_or (drop from ans) (16 * i + 17) 0 = e₁ ∙ rw q (sym (get_or-drop from ans (16 * i + 17) 0)) in
-      let f₂ : t ≡ le16 (drop from ans) (16 * i + 18) = e₂ ∙ item16 2 (16 * i + 18) (omega arith) in
-      let f₃ : l ≡ le16 (drop from ans) (16 * i + 20) = e₃ ∙ item16 4 (16 * i + 20) (omega arith) in
-      let f₄ : g ≡ le16 (drop from ans) (16 * i + 22) = e₄ ∙ item16 6 (16 * i + 22) (omega arith) in
-      let f₅ : m ≡ le16 (drop from ans) (16 * i + 24) = e₅ ∙ item16 8 (16 * i + 24) (omega arith) in
-      rw (f₁, f₂, f₃, f₄, f₅)
+  placed g l k o = rw (messages_more io.messages io.sent o (omega arith)) (sym (send-goes o io.stop refl g ∙ rw (lt-leb 102 io.sent l)))
 
 -- ── sixteen stores at the front ──
 
@@ -369,8 +351,36 @@ pub stores_length : (l : List ℕ) (c : Call) →
 unfolding put64
 stores_length l c = simp length-set
 
--- ── the calls that are made ──
+-- ── what a function may look at, and the one thing that is set apart from a call ──
 
-pub plain_listing : (ans : List ℕ) (c : Call) (k d n a from count : ℕ) → c ≡ plain_call k d n a → Listing ans c.kind from count → Listing ans k from count
+pub is_open_lem : (io : Io) (d : ℕ) → is_open d (shown io) ≡ get_or io.opened d false
+unfolding shown is_open
+is_open_lem io d = refl
+
+pub opens : (io : Io) (d : ℕ) → opening d (shown io) ≡ shown (opened_in io d)
+unfolding shown opening
+opens io d = refl
+
+-- a plain call is of its kind
+pub plain_listing : (c : Call) (r : Reply) (k d n a : ℕ) → c ≡ plain_call k d n a → Listing c.kind r → Listing k r
 unfolding plain_call
-plain_listing ans c k d n a from count e l = rw e at l
+plain_listing c r k d n a e l = rw e at l
+
+-- past the places there are, opening a driver changes nothing
+pub past_same : (io : Io) (d : ℕ) → length io.opened ≡ 16 → (d < 16 → ⊥) → io ≡ opened_in io d
+past_same io d h l = rw (set_out io.opened d true (omega arith))
+
+-- ── lists that are handed on ──
+
+pub items_more : (part : List ℕ) (i : ℕ) → items_of (i + 1) part ≡ items_of i part ++ (item_at part i ∷ [])
+unfolding items_of
+items_more part i = rw add-one
+
+pub names_more : (part : List ℕ) (i : ℕ) → map name_of (items_of (i + 1) part) ≡ map name_of (items_of i part) ++ (le16 part (16 * i + 18) ∷ [])
+names_more part i = ap (map name_of) (items_more part i) ∙ map-append name_of (items_of i part) (item_at part i ∷ [])
+
+-- one test of all the items, or the other
+pub all_cond : (b : Bool) (part : List ℕ) (n : ℕ) →
+    all n (λ i. cond b (live_fits part i) (item_fits part i)) ≡ cond b (all n (live_fits part)) (all n (item_fits part))
+all_cond true part n = refl
+all_cond false part n = refl

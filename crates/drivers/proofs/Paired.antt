@@ -8,7 +8,9 @@ use lib.ListN.{length}
 use Rattle.protocol.specs.Protocol.{bytes_of}
 use Rattle.protocol.specs.declared.Out.{Out}
 use Rattle.drivers.specs.Answers.{answer_of, is_unfit}
-use Rattle.drivers.specs.Talk.{Stop, going, waits, declined, overrun, Talk, Got, Reply, start, ask, ask_at, ask_room, ask_left, ask_fit, opening, send, send_at, send_room}
+use Rattle.drivers.specs.Talk.{Talk, Got, Reply, start, ask, ask_at, ask_room, ask_left, ask_fit, opening, send, send_at, send_room}
+use Rattle.drivers.specs.declared.line.Stop.{Stop}
+use Rattle.drivers.specs.declared.line.Stop.TheVariants.{Going, Waits, Declined, Overrun}
 use Rattle.drivers.specs.Paired.{reply_to, behind, after, paired, Fed}
 use Rattle.drivers.specs.PairedLaws.{after-append, paired-append, waits_on, declined_on, overrun_on}
 use Rattle.drivers.specs.declared.Call.{Call}
@@ -27,12 +29,12 @@ paired-more cs c ans = paired-append cs (c ∷ []) ans
 pub record Took (ans : List ℕ) (c : Call) (t : Talk) (r : Got Reply) : Type 0 where
   pub fed : Fed ans r.talk
   -- the line goes on: the call was made, and is answered by what the act gives
-  pub more : r.talk.stop ≡ going → paired r.talk.calls ans ≡ paired t.calls ans ++ (record { call = c; reply = r.value } ∷ [])
+  pub more : r.talk.stop ≡ Going → paired r.talk.calls ans ≡ paired t.calls ans ++ (record { call = c; reply = r.value } ∷ [])
   -- it has stopped: no call was made
-  pub none : (r.talk.stop ≡ going → ⊥) → r.talk.calls ≡ t.calls
+  pub none : (r.talk.stop ≡ Going → ⊥) → r.talk.calls ≡ t.calls
 
 module _ (ans : List ℕ) (c : Call) (t : Talk) (f : Fed ans t) where
-  fit : t.stop ≡ going → (b : Bool) → Took ans c t (ask_fit b c (answer_of t.left c.kind) t)
+  fit : t.stop ≡ Going → (b : Bool) → Took ans c t (ask_fit b c (answer_of t.left c.kind) t)
   fit q true = record { fed = f; more = λ e. absurd (declined_on e); none = λ _. refl }
   fit q false =
       record {
@@ -41,19 +43,19 @@ module _ (ans : List ℕ) (c : Call) (t : Talk) (f : Fed ans t) where
         none = λ n. absurd (n q);
       }
 
-  left : t.stop ≡ going → (b : Bool) → Took ans c t (ask_left b c t)
+  left : t.stop ≡ Going → (b : Bool) → Took ans c t (ask_left b c t)
   left q true = record { fed = f; more = λ e. absurd (waits_on e); none = λ _. refl }
   left q false = fit q (is_unfit (answer_of t.left c.kind))
 
-  room : t.stop ≡ going → (b : Bool) → Took ans c t (ask_room b c t)
+  room : t.stop ≡ Going → (b : Bool) → Took ans c t (ask_room b c t)
   room q true = record { fed = f; more = λ e. absurd (overrun_on e); none = λ _. refl }
   room q false = left q (eqb (length t.left) 0)
 
   at_stop : (s : Stop) → t.stop ≡ s → Took ans c t (ask_at s c t)
-  at_stop going q = room q (leb 337 (length t.calls))
-  at_stop (waits d) q = record { fed = f; more = λ e. absurd (waits_on (sym q ∙ e)); none = λ _. refl }
-  at_stop declined q = record { fed = f; more = λ e. absurd (declined_on (sym q ∙ e)); none = λ _. refl }
-  at_stop overrun q = record { fed = f; more = λ e. absurd (overrun_on (sym q ∙ e)); none = λ _. refl }
+  at_stop Going q = room q (leb 337 (length t.calls))
+  at_stop (Waits d) q = record { fed = f; more = λ e. absurd (waits_on (sym q ∙ e)); none = λ _. refl }
+  at_stop Declined q = record { fed = f; more = λ e. absurd (declined_on (sym q ∙ e)); none = λ _. refl }
+  at_stop Overrun q = record { fed = f; more = λ e. absurd (overrun_on (sym q ∙ e)); none = λ _. refl }
 
 pub ask-took : (ans : List ℕ) (c : Call) (t : Talk) → Fed ans t → Took ans c t (ask c t)
 unfolding ask
@@ -77,7 +79,7 @@ send_fed ans o t f = at t.stop
     in_room false = f
 
     at : (s : Stop) → Fed ans (send_at s (bytes_of o) t)
-    at going = in_room (leb 102 (length t.messages))
-    at (waits d) = f
-    at declined = f
-    at overrun = f
+    at Going = in_room (leb 102 (length t.messages))
+    at (Waits d) = f
+    at Declined = f
+    at Overrun = f

@@ -1,3 +1,4 @@
+pub mod Kinds
 pub mod Answers
 pub mod AnswersLaws
 pub mod Talk

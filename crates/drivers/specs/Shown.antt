@@ -1,16 +1,15 @@
 -- What the code's line and both buffers show of the definitions' line: a function, so that each contract is one equation. Definitions only.
-use Rattle.std.specs.Prelude.{ℕ, zero, suc, ◌+◌, ◌*◌, ◌≤◌, ◌<◌, ◌≡◌, List, [], ◌∷◌, ◌++◌, Bool, true, length, get_or, set, take, drop}
+use Rattle.std.specs.Prelude.{ℕ, zero, suc, ◌+◌, ◌*◌, ◌≤◌, ◌<◌, ◌≡◌, List, [], ◌∷◌, ◌++◌, true, false, length, get_or, set, drop, Option, None, Some}
 use Rattle.base.specs.Words.{le16, le32, le64, bytes16, bytes32, bytes64}
-use Rattle.drivers.specs.Answers.{items_of}
-use Rattle.drivers.specs.Talk.{Stop, going, waits, declined, overrun, Talk, Reply, Listed}
+use Rattle.drivers.specs.Answers.{items_of, is_list}
+use Rattle.drivers.specs.Talk.{Talk, Reply as Answered, Listed, send}
 use Rattle.drivers.specs.declared.Call.{Call}
-use Rattle.drivers.specs.declared.Answer.{Answer}
-use Rattle.drivers.specs.declared.Io.{Io}
-use Rattle.drivers.specs.declared.line.Got.{Got}
-use Rattle.drivers.specs.declared.Answer.TheVariants.{Refused}
-use Rattle.drivers.specs.declared.LiveFader.{LiveFader}
-use Rattle.drivers.specs.declared.Names.{Names}
-use Rattle.drivers.specs.declared.FaderList.{FaderList}
+use Rattle.drivers.specs.declared.line.Io.{Io}
+use Rattle.drivers.specs.declared.line.Stop.{Stop}
+use Rattle.drivers.specs.declared.line.Reply.{Reply}
+use Rattle.protocol.specs.Protocol.{bytes_of}
+use Rattle.protocol.specs.declared.Out.{Out}
+use Rattle.base.specs.Tail.{over}
 
 -- ── call records: "Call, 16 bytes" ──
 
@@ -38,69 +37,80 @@ messages_in (suc n) bs = messages_in n bs ++ (message_at bs (3 * n) ∷ [])
 
 -- ── the line ──
 
-abbrev pub stop_in : ℕ → Call → Stop
-stop_in zero c = going
-stop_in (suc zero) c = waits c
-stop_in (suc (suc zero)) c = declined
-stop_in (suc (suc (suc n))) c = overrun
-
--- of the answers, the code's line, the call buffer and the message buffer
-unfoldable pub shown : List ℕ → Io → List ℕ → List ℕ → Talk
-shown answers io calls messages =
+unfoldable pub shown : Io → Talk
+shown io =
     record {
-      left = drop io.read answers;
+      left = drop io.read io.answers.now;
       used = io.read;
       opened = io.opened;
-      calls = calls_in io.asked calls;
-      messages = messages_in io.sent messages;
-      stop = stop_in io.stop io.due;
+      calls = calls_in io.asked io.calls;
+      messages = messages_in io.sent io.messages;
+      stop = io.stop;
     }
 
 -- ── the code's line, one change at a time ──
 
--- it stops at a call, for a reason
-abbrev pub halt_of : Io → Call → ℕ → Got
-halt_of io c why =
+-- it stops
+abbrev pub stopped : Stop → Io → Io
+stopped why io =
     record {
-      io = record { read = io.read; asked = io.asked; sent = io.sent; opened = io.opened; stop = why; due = c };
-      answer = Refused;
-      from = 0;
-      count = 0;
+      answers = io.answers;
+      calls = io.calls;
+      messages = io.messages;
+      read = io.read;
+      asked = io.asked;
+      sent = io.sent;
+      opened = io.opened;
+      stop = why;
     }
-
--- a call and its answer's record with its items are done with
-abbrev pub noted_of : Io → ℕ → Io
-noted_of io n =
-    record { read = io.read + (16 + 16 * n); asked = io.asked + 1; sent = io.sent; opened = io.opened; stop = io.stop; due = io.due }
 
 abbrev pub opened_in : Io → ℕ → Io
 opened_in io driver =
-    record { read = io.read; asked = io.asked; sent = io.sent; opened = set io.opened driver true; stop = io.stop; due = io.due }
+    record {
+      answers = io.answers;
+      calls = io.calls;
+      messages = io.messages;
+      read = io.read;
+      asked = io.asked;
+      sent = io.sent;
+      opened = set io.opened driver true;
+      stop = io.stop;
+    }
 
-abbrev pub sent_one : Io → Io
-sent_one io = record { read = io.read; asked = io.asked; sent = io.sent + 1; opened = io.opened; stop = io.stop; due = io.due }
+-- one more message is sent, and the buffer is this one
+abbrev pub sent_with : List ℕ → Io → Io
+sent_with messages io =
+    record {
+      answers = io.answers;
+      calls = io.calls;
+      messages = messages;
+      read = io.read;
+      asked = io.asked;
+      sent = io.sent + 1;
+      opened = io.opened;
+      stop = io.stop;
+    }
 
-abbrev pub roomless : Io → Io
-roomless io = record { read = io.read; asked = io.asked; sent = io.sent; opened = io.opened; stop = 3; due = io.due }
+-- where the next message goes, if it goes anywhere: whichever it is, it is sent once it stands there
+abbrev pub Places : Io → Option ℕ → Io → Type 0
+Places io None u = (o : Out) → shown u ≡ send o (shown io)
+Places io (Some at) u =
+    (at + 3 ≤ 306) × (u ≡ sent_with io.messages io) × ((o : Out) → shown (sent_with (over io.messages at (bytes_of o)) io) ≡ send o (shown io))
 
--- ── what a call gave: a list's own record is at place `from` of the answers, its items behind it ──
+-- ── what a call gave ──
 
-unfoldable pub reply_in : List ℕ → Answer → ℕ → ℕ → Reply
-reply_in answers a from count = record { answer = a; items = items_of count (drop from answers) }
+unfoldable pub reply_in : Reply → Answered
+reply_in r = record { answer = r.answer; items = items_of r.count r.part.now }
 
--- every item of a list is within the answers, and there are at most 128, of live faders at most 32
-pub record Listing (answers : List ℕ) (kind from count : ℕ) : Type 0 where
-  pub within : (i : ℕ) → i < count → from + (16 * i + 32) ≤ length answers
-  pub scenes : count ≤ 128
-  pub live : kind ≡ 9 → count ≤ 32
+-- every item of a list is within the answers, and there are at most 128, of live faders at most 32; no other answer has any
+pub record Listing (kind : ℕ) (r : Reply) : Type 0 where
+  pub within : (i : ℕ) → i < r.count → 16 * i + 32 ≤ length r.part.now
+  pub scenes : r.count ≤ 128
+  pub live : kind ≡ 9 → r.count ≤ 32
+  pub none : is_list r.answer ≡ false → r.count ≡ 0
 
--- what is seen of the lists that are handed on
-abbrev pub seen_names : Names → List ℕ
-seen_names n = take n.count n.list
-
-abbrev pub seen_faders : FaderList → List LiveFader
-seen_faders f = take f.count f.list
-
+-- a list that is handed on, if there is one
 module _ {A : Type 0} where
-  abbrev pub listed : Bool → List A → Listed A
-  listed ok l = record { ok = ok; list = l }
+  abbrev pub listed : Option (List A) → Listed A
+  listed None = record { ok = false; list = [] }
+  listed (Some l) = record { ok = true; list = l }

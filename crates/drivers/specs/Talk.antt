@@ -12,14 +12,17 @@ use Rattle.drivers.specs.declared.Call.{Call}
 use Rattle.drivers.specs.declared.Answer.{Answer}
 use Rattle.drivers.specs.declared.Answer.TheVariants as answer
 use Rattle.drivers.specs.declared.LiveFader.{LiveFader}
+use Rattle.drivers.specs.declared.line.Stop.{Stop}
+use Rattle.drivers.specs.declared.line.Stop.TheVariants.{Going, Waits, Declined, Overrun}
 
 infixl 1 ◌>>=◌
--- Why a line stopped: an answer is missing ("waiting", with that call), one is cut short or does not fit (14), or a buffer is full, which no event reaches
-pub data Stop : Type 0 where
-  going : Stop
-  waits : Call → Stop
-  declined : Stop
-  overrun : Stop
+-- the line goes on; it stops where an answer is missing ("waiting", with that call), where one is cut short or does not fit (14), or where a buffer is full,
+-- which no event reaches
+abbrev pub is_going : Stop → Bool
+is_going Going = true
+is_going (Waits c) = false
+is_going Declined = false
+is_going Overrun = false
 
 -- The answers left and the bytes of them used, the drivers that are open, the calls made and the messages sent, in order
 pub record Talk : Type 0 where
@@ -52,7 +55,7 @@ module _ {A B : Type 0} where
 
 -- an event's line at its start
 abbrev pub start : List ℕ → List Bool → Talk
-start answers opened = record { left = answers; used = 0; opened = opened; calls = []; messages = []; stop = going }
+start answers opened = record { left = answers; used = 0; opened = opened; calls = []; messages = []; stop = Going }
 
 -- ── a call ──
 
@@ -81,23 +84,23 @@ took c n t =
     }
 
 abbrev pub ask_fit : Bool → Call → Answer → Act Reply
-ask_fit true c a t = got no_reply (halted declined t)
+ask_fit true c a t = got no_reply (halted Declined t)
 ask_fit false c a t = got (record { answer = a; items = items_of (item_count a t.left) t.left }) (took c (item_count a t.left) t)
 
 -- "No bytes left means waiting"
 abbrev pub ask_left : Bool → Call → Act Reply
-ask_left true c t = got no_reply (halted (waits c) t)
+ask_left true c t = got no_reply (halted (Waits c) t)
 ask_left false c t = ask_fit (is_unfit (answer_of t.left c.kind)) c (answer_of t.left c.kind) t
 
 abbrev pub ask_room : Bool → Call → Act Reply
-ask_room true c t = got no_reply (halted overrun t)
+ask_room true c t = got no_reply (halted Overrun t)
 ask_room false c t = ask_left (eqb (length t.left) 0) c t
 
 abbrev pub ask_at : Stop → Call → Act Reply
-ask_at going c t = ask_room (leb 337 (length t.calls)) c t
-ask_at (waits d) c t = got no_reply t
-ask_at declined c t = got no_reply t
-ask_at overrun c t = got no_reply t
+ask_at Going c t = ask_room (leb 337 (length t.calls)) c t
+ask_at (Waits d) c t = got no_reply t
+ask_at Declined c t = got no_reply t
+ask_at Overrun c t = got no_reply t
 
 -- "A call takes the next answer."
 unfoldable pub ask : Call → Act Reply
@@ -207,15 +210,15 @@ live_of driver which = use_call (plain_call 9 driver 0 which) >>= λ r. got (rec
 -- ── a message ──
 
 abbrev pub send_room : Bool → List ℕ → Talk → Talk
-send_room true m t = halted overrun t
+send_room true m t = halted Overrun t
 send_room false m t =
     record { left = t.left; used = t.used; opened = t.opened; calls = t.calls; messages = t.messages ++ (m ∷ []); stop = t.stop }
 
 abbrev pub send_at : Stop → List ℕ → Talk → Talk
-send_at going m t = send_room (leb 102 (length t.messages)) m t
-send_at (waits c) m t = t
-send_at declined m t = t
-send_at overrun m t = t
+send_at Going m t = send_room (leb 102 (length t.messages)) m t
+send_at (Waits c) m t = t
+send_at Declined m t = t
+send_at Overrun m t = t
 
 -- "Messages are written behind the same event's messages already there."
 unfoldable pub send : Out → Talk → Talk

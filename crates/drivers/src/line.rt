@@ -1,67 +1,73 @@
-// The two primitives, `ask` and `send`, and one function for each use of a driver. Every one takes the same four parameters first: the answers, both
-// buffers of the event, and the line.
-ghost use Rattle.std.specs.Prelude.{◌≡◌, false, List, map, ℕ, ◌+◌, ◌*◌, ◌≤◌, ◌<◌, length, get_or, drop};
+// The two primitives, `ask` and `send`, and one function for each use of a driver.
+ghost use Rattle.std.specs.Prelude.{◌≡◌, false, map, ◌+◌, ◌*◌, ◌≤◌, ◌<◌, length, get_or};
 ghost use Rattle.base.specs.Tail.{at_front};
 ghost use Rattle.protocol.specs.Protocol.{sent_to};
 ghost use Rattle.protocol.specs.declared.Out.TheVariants.{Led};
-ghost use Rattle.drivers.specs.Answers.{item_at, items_of, item_count};
-ghost use Rattle.drivers.specs.Talk.{got, start, name_of, ask as ask_of, open_for, use_call, use_done, written as written_of, plain_call, write_call, level_of, index_of, read_of, write_of, toggle_of, command_of, playing_of, scenes_of, current_of, load_of, live_of, send};
-ghost use Rattle.drivers.specs.Shown.{shown, call_bytes, halt_of, noted_of, opened_in, sent_one, roomless, reply_in, Listing, seen_names, seen_faders, listed};
+ghost use Rattle.drivers.specs.Kinds.{number_of};
+ghost use Rattle.drivers.specs.declared.Answer.TheVariants.{Refused};
+ghost use Rattle.drivers.specs.Answers.{items_of, item_at, item_count};
+ghost use Rattle.drivers.specs.Talk.{got, start, is_going, name_of, ask as ask_of, open_for, use_call, use_done, written as written_of, plain_call, write_call, read_of, write_of, toggle_of, command_of, playing_of, scenes_of, current_of, load_of, live_of, send};
+ghost use Rattle.drivers.specs.Shown.{shown, call_bytes, stopped, opened_in, Places, reply_in, Listing, listed};
 
-use crate::{
-    Answer, Call, Current, DECLINED, FaderList, GOING, Io, LiveFader, Lives, Names, OVERRUN,
-    Reading, SceneList, Tried, WAITS, parse,
-};
+use crate::{Answer, Call, Kind, LiveFader, LiveFaders, Names, parse};
 
-// A call's answer, and, of a list, where its own record stands and how many items follow.
+// Why a line stopped: it waits for the answer to a call, an answer does not fit, or a buffer is full, which no event reaches.
 #[derive(Clone, Copy)]
-struct Got {
-    io: Io,
+pub enum Stop {
+    Going,
+    Waits(Call),
+    Declined,
+    Overrun,
+}
+
+impl Stop {
+    pub fn is_going(&self) -> bool
+        ensures { result ≡ is_going self.now }
+    {
+        matches!(self, Stop::Going)
+    }
+}
+
+// The line of an event: the answers and how many bytes of them are read, the calls asked and the messages sent, each with the buffer in which they stand,
+// the drivers that are open, and why it stopped. The three buffers keep their counts beside them: the core has fixed memory, and the layout is document 01's.
+#[derive(Drop)]
+pub struct Io<'a> {
+    pub answers: &'a [u8],
+    pub calls: [u8; 5392],
+    pub messages: [u8; 306],
+    pub read: usize,
+    pub asked: usize,
+    pub sent: usize,
+    pub opened: [bool; 16],
+    pub stop: Stop,
+}
+
+// A call's answer, the answers from its own record on, and how many items of a list follow it.
+#[derive(Clone, Copy)]
+struct Reply<'a> {
     answer: Answer,
-    from: usize,
+    part: &'a [u8],
     count: usize,
 }
 
-fn no_call() -> Call {
+#[tactic(auto, unfolding(crate::specs::Talk::plain_call))]
+fn plain(kind: Kind, driver: u8, name: u16, argument: u32) -> Call
+    ensures { result ≡ plain_call (number_of kind) driver name argument }
+{
     Call {
-        kind: 0,
-        driver: 0,
-        name: 0,
-        argument: 0,
+        kind: kind.number(),
+        driver,
+        name: written(name),
+        argument,
         level: 0,
     }
 }
 
-// The line at the start of an event.
-pub fn fresh(opened: [bool; 16]) -> Io
-    ensures { (answers calls messages : List ℕ) → shown answers result calls messages ≡ start answers opened }
+// A name that is absent is written 0.
+fn written(name: u16) -> u16
+    ensures { result ≡ written_of name }
 {
-    let c = no_call();
-    Io {
-        read: 0,
-        asked: 0,
-        sent: 0,
-        opened: opened,
-        stop: GOING,
-        due: c,
-    }
-}
-
-// ── ask ──
-
-// The line stops at a call.
-fn halt(io: Io, c: Call, why: u8) -> Got
-    ensures { result ≡ halt_of io c why }
-{
-    let mut u = io;
-    u.due = c;
-    u.stop = why;
-    Got {
-        io: u,
-        answer: Answer::Refused,
-        from: 0,
-        count: 0,
-    }
+    if name == 65535 { 0 } else { name }
 }
 
 // The sixteen bytes of a call, at the start of the part that is lent: the tail of the call buffer.
@@ -77,527 +83,329 @@ fn write_call(part: &mut [u8], c: Call)
 }
 
 // How many items stand behind the record that the answer starts with.
+#[tactic(auto, unfolding(crate::specs::Answers::item_count))]
 fn items(part: &[u8], a: Answer) -> usize
     requires { 16 ≤ length part.now }
     ensures { result ≡ item_count a part.now }
 {
-    if parse::is_list(a) {
-        return base::read_u16(part, 2) as usize;
+    if a.is_list() {
+        return usize::from(base::read_u16(part, 2));
     }
     0
 }
 
-// The call is made, and its answer read with its items.
-fn noted(io: Io, count: usize) -> Io
-    requires { (io.asked < 337) × (io.read + (16 + 16 * count) < 18446744073709551616) }
-    ensures { result ≡ noted_of io count }
-{
-    let mut u = io;
-    u.asked = u.asked + 1;
-    u.read = u.read + (16 + 16 * count);
-    u
-}
+impl<'a> Io<'a> {
+    // The line at the start of an event.
+    #[tactic(auto, unfolding(crate::specs::Shown::shown, crate::specs::Shown::calls_in, crate::specs::Shown::messages_in))]
+    pub fn fresh(answers: &'a [u8], opened: [bool; 16]) -> Io<'a>
+        ensures { shown result ≡ start answers.now opened }
+    {
+        Io {
+            answers,
+            calls: [0; 5392],
+            messages: [0; 306],
+            read: 0,
+            asked: 0,
+            sent: 0,
+            opened,
+            stop: Stop::Going,
+        }
+    }
 
-// The call, over the buffer as a slice, whose tail is lent to the writer; the part of the answers from the first unread record is handed on.
-fn ask_in(answers: &[u8], calls: &mut [u8], io: Io, c: Call) -> Got
-    requires { 5392 ≤ length calls.old }
-    ensures by_index { (ms : List ℕ) → got (reply_in answers.now result.answer result.from result.count) (shown answers.now result.io calls.new ms) ≡ ask_of c (shown answers.now io calls.old ms) }
-    ensures listing { Listing answers.now c.kind result.from result.count }
-{
-    if io.stop != GOING {
-        return Got {
-            io: io,
+    // ── ask ──
+
+    // A call that is not made counts as refused.
+    fn refused(&self) -> Reply<'a>
+        ensures { (result.answer ≡ Refused) × (result.count ≡ 0) }
+    {
+        Reply {
             answer: Answer::Refused,
-            from: 0,
+            part: self.answers,
             count: 0,
-        };
+        }
     }
-    let n = io.asked;
-    let full = 337 <= n;
-    if full {
-        return halt(io, c, OVERRUN);
+
+    // The line stops.
+    fn halt(&mut self, why: Stop) -> Reply<'a>
+        ensures line { self.new ≡ stopped why self.old }
+        ensures reply { (result.answer ≡ Refused) × (result.count ≡ 0) }
+    {
+        self.stop = why;
+        self.refused()
     }
-    let at = io.read;
-    if answers.len() <= at {
-        return halt(io, c, WAITS);
+
+    // A call takes the next answer.
+    fn ask(&mut self, c: Call) -> Reply<'a>
+        ensures value { got (reply_in result) (shown self.new) ≡ ask_of c (shown self.old) }
+        ensures listing { Listing c.kind result }
+    {
+        if !self.stop.is_going() {
+            return self.refused();
+        }
+        let full = 337 <= self.asked;
+        if full {
+            return self.halt(Stop::Overrun);
+        }
+        if self.answers.len() <= self.read {
+            return self.halt(Stop::Waits(c));
+        }
+        let part = &self.answers[self.read..];
+        let answer = parse::first(part, c.kind);
+        if answer.is_unfit() {
+            return self.halt(Stop::Declined);
+        }
+        let count = items(part, answer);
+        let at = 16 * self.asked;
+        write_call(&mut self.calls[at..], c);
+        self.asked += 1;
+        self.read += 16 + 16 * count;
+        Reply {
+            answer,
+            part,
+            count,
+        }
     }
-    let a = parse::first(&answers[at..], c.kind);
-    if parse::is_unfit(a) {
-        return halt(io, c, DECLINED);
+
+    // ── opening ──
+
+    // Whether the driver is open. A profile's and a live list's drivers are 0 to 15, and the line has a place for each. Any other is never open, as in the
+    // definition, so that no caller has to carry the bound.
+    fn is_open(&self, driver: u8) -> bool
+        ensures { result ≡ get_or self.now.opened driver false }
+    {
+        self.opened
+            .get(usize::from(driver))
+            .copied()
+            .unwrap_or(false)
     }
-    let count = items(&answers[at..], a);
-    let to = 16 * n;
-    write_call(&mut calls[to..], c);
-    let u = noted(io, count);
-    Got {
-        io: u,
-        answer: a,
-        from: at,
-        count: count,
+
+    // The driver is open from here on; one that has no place changes nothing.
+    #[tactic(auto, using(crate::proofs::Laws::past_same))]
+    fn opening(&mut self, driver: u8)
+        ensures { self.new ≡ opened_in self.old driver }
+    {
+        if driver < 16 {
+            self.opened[usize::from(driver)] = true;
+        }
     }
-}
 
-// A call takes the next answer.
-fn ask(answers: &[u8], calls: &mut [u8; 5392], messages: &mut [u8; 306], io: Io, c: Call) -> Got
-    ensures messages_after { got (reply_in answers.now result.answer result.from result.count) (shown answers.now result.io calls.new messages.new) ≡ ask_of c (shown answers.now io calls.old messages.old) }
-    ensures listing { Listing answers.now c.kind result.from result.count }
-{
-    ask_in(answers, calls, io, c)
-}
-
-// ── opening ──
-
-// Whether the driver is open. A profile's and a live list's drivers are 0 to 15, and the line has a place for each. Any other is never open, as in the
-// definition, so that no caller has to carry the bound.
-fn is_open(io: Io, driver: u8) -> bool
-    ensures { result ≡ get_or io.opened driver false }
-{
-    if 16 <= driver {
-        return false;
+    // Whether the driver is open, or opens now for a use of the name.
+    #[tactic(auto, unfolding(crate::specs::Talk::open_for, crate::specs::Talk::next, crate::specs::Shown::reply_in), using(crate::proofs::Laws::is_open_lem, crate::proofs::Laws::opens))]
+    fn open_for(&mut self, driver: u8, name: u16) -> bool
+        ensures { got result (shown self.new) ≡ open_for driver name (shown self.old) }
+    {
+        if self.is_open(driver) {
+            return true;
+        }
+        let opens = self
+            .ask(plain(Kind::Open, driver, name, 0))
+            .answer
+            .is_done();
+        if opens {
+            self.opening(driver);
+        }
+        opens
     }
-    let d = driver as usize;
-    io.opened[d]
-}
 
-// The driver is open from here on; one that has no place changes nothing.
-fn opening(io: Io, driver: u8) -> Io
-    ensures { result ≡ opened_in io driver }
-{
-    if 16 <= driver {
-        return io;
+    // A use of a driver: it is opened first, until that succeeds once, and a refused open stands for the use.
+    #[tactic(auto, unfolding(crate::specs::Talk::use_call, crate::specs::Talk::next, crate::specs::Shown::reply_in, crate::specs::Answers::items_of), using(crate::proofs::Laws::no_listing))]
+    fn use_call(&mut self, c: Call) -> Reply<'a>
+        ensures value { got (reply_in result) (shown self.new) ≡ use_call c (shown self.old) }
+        ensures listing { Listing c.kind result }
+    {
+        if self.open_for(c.driver, c.name) {
+            self.ask(c)
+        } else {
+            self.refused()
+        }
     }
-    let d = driver as usize;
-    let mut u = io;
-    u.opened[d] = true;
-    u
-}
 
-// A name that is absent is written 0.
-fn written(name: u16) -> u16
-    ensures { result ≡ written_of name }
-{
-    if name == 65535 {
-        return 0;
+    // ── the uses ──
+
+    // Whether the call was made and answered done.
+    #[tactic(auto, unfolding(crate::specs::Talk::use_done, crate::specs::Talk::next, crate::specs::Shown::reply_in))]
+    fn done(&mut self, c: Call) -> bool
+        ensures { got result (shown self.new) ≡ use_done c (shown self.old) }
+    {
+        self.use_call(c).answer.is_done()
     }
-    name
-}
 
-fn plain(kind: u8, driver: u8, name: u16, argument: u32) -> Call
-    ensures { result ≡ plain_call kind driver name argument }
-{
-    let n = written(name);
-    Call {
-        kind: kind,
-        driver: driver,
-        name: n,
-        argument: argument,
-        level: 0,
+    // The driver is opened for its buttons alone, which are no call.
+    pub fn open(&mut self, driver: u8) -> bool
+        ensures { got result (shown self.new) ≡ open_for driver 0 (shown self.old) }
+    {
+        self.open_for(driver, 0)
     }
-}
 
-// Whether the driver is open, or opens now for a use of the name.
-fn open_for(
-    answers: &[u8],
-    calls: &mut [u8; 5392],
-    messages: &mut [u8; 306],
-    io: Io,
-    driver: u8,
-    name: u16,
-) -> Tried
-    ensures { got result.ok (shown answers.now result.io calls.new messages.new) ≡ open_for driver name (shown answers.now io calls.old messages.old) }
-{
-    if is_open(io, driver) {
-        return Tried { io: io, ok: true };
+    #[tactic(auto, unfolding(crate::specs::Talk::read_of, crate::specs::Talk::next, crate::specs::Shown::reply_in))]
+    pub fn read(&mut self, driver: u8, name: u16) -> Option<f64>
+        ensures { got result (shown self.new) ≡ read_of driver name (shown self.old) }
+    {
+        match self.use_call(plain(Kind::Read, driver, name, 0)).answer {
+            Answer::Level(x) => Some(x),
+            _ => None,
+        }
     }
-    let c = plain(0, driver, name, 0);
-    let g = ask(answers, calls, messages, io, c);
-    let u = g.io;
-    let a = g.answer;
-    if parse::is_done(a) {
-        let v = opening(u, driver);
-        return Tried { io: v, ok: true };
+
+    #[tactic(auto, unfolding(crate::specs::Talk::write_of, crate::specs::Talk::write_call, crate::specs::Talk::next))]
+    pub fn write(&mut self, driver: u8, name: u16, value: f64) -> bool
+        ensures { got result (shown self.new) ≡ write_of driver name value (shown self.old) }
+    {
+        self.done(Call {
+            kind: Kind::Write.number(),
+            driver,
+            name: written(name),
+            argument: 0,
+            level: float::to_bits(value),
+        })
     }
-    Tried { io: u, ok: false }
-}
 
-// A use of a driver: it is opened first, until that succeeds once, and a refused open stands for the use.
-fn use_call(
-    answers: &[u8],
-    calls: &mut [u8; 5392],
-    messages: &mut [u8; 306],
-    io: Io,
-    c: Call,
-) -> Got
-    ensures messages_after { got (reply_in answers.now result.answer result.from result.count) (shown answers.now result.io calls.new messages.new) ≡ use_call c (shown answers.now io calls.old messages.old) }
-    ensures listing { Listing answers.now c.kind result.from result.count }
-{
-    let t = open_for(answers, calls, messages, io, c.driver, c.name);
-    let u = t.io;
-    if t.ok {
-        return ask(answers, calls, messages, u, c);
+    #[tactic(auto, unfolding(crate::specs::Talk::toggle_of, crate::specs::Talk::next, crate::specs::Shown::reply_in))]
+    pub fn toggle(&mut self, driver: u8, name: u16) -> bool
+        ensures { got result (shown self.new) ≡ toggle_of driver name (shown self.old) }
+    {
+        self.done(plain(Kind::Toggle, driver, name, 0))
     }
-    Got {
-        io: u,
-        answer: Answer::Refused,
-        from: 0,
-        count: 0,
+
+    #[tactic(auto, unfolding(crate::specs::Talk::command_of, crate::specs::Talk::next, crate::specs::Shown::reply_in))]
+    pub fn command(&mut self, driver: u8, name: u16, what: u16) -> bool
+        ensures { got result (shown self.new) ≡ command_of driver name what (shown self.old) }
+    {
+        self.done(plain(Kind::Command, driver, name, u32::from(what)))
     }
-}
 
-// ── the uses ──
-
-// Whether the call was made and answered done.
-fn done(answers: &[u8], calls: &mut [u8; 5392], messages: &mut [u8; 306], io: Io, c: Call) -> Tried
-    ensures { got result.ok (shown answers.now result.io calls.new messages.new) ≡ use_done c (shown answers.now io calls.old messages.old) }
-{
-    let g = use_call(answers, calls, messages, io, c);
-    let u = g.io;
-    let a = g.answer;
-    let ok = parse::is_done(a);
-    Tried { io: u, ok: ok }
-}
-
-// The driver is opened for its buttons alone, which are no call.
-pub fn open(
-    answers: &[u8],
-    calls: &mut [u8; 5392],
-    messages: &mut [u8; 306],
-    io: Io,
-    driver: u8,
-) -> Tried
-    ensures { got result.ok (shown answers.now result.io calls.new messages.new) ≡ open_for driver 0 (shown answers.now io calls.old messages.old) }
-{
-    open_for(answers, calls, messages, io, driver, 0)
-}
-
-fn level_of(a: Answer) -> Option<f64>
-    ensures { result ≡ level_of a }
-{
-    match a {
-        Answer::Level(x) => Some(x),
-        _ => None,
+    // Whether the player said yes or no, and so is there at all.
+    #[tactic(auto, unfolding(crate::specs::Talk::playing_of, crate::specs::Talk::next, crate::specs::Shown::reply_in))]
+    pub fn playing(&mut self, driver: u8, name: u16) -> bool
+        ensures { got result (shown self.new) ≡ playing_of driver name (shown self.old) }
+    {
+        self.use_call(plain(Kind::Playing, driver, name, 0))
+            .answer
+            .is_yes_no()
     }
-}
 
-pub fn read(
-    answers: &[u8],
-    calls: &mut [u8; 5392],
-    messages: &mut [u8; 306],
-    io: Io,
-    driver: u8,
-    name: u16,
-) -> Reading
-    ensures { got result.level (shown answers.now result.io calls.new messages.new) ≡ read_of driver name (shown answers.now io calls.old messages.old) }
-{
-    let c = plain(1, driver, name, 0);
-    let g = use_call(answers, calls, messages, io, c);
-    let u = g.io;
-    let a = g.answer;
-    let l = level_of(a);
-    Reading { io: u, level: l }
-}
-
-fn writing(driver: u8, name: u16, value: f64) -> Call
-    ensures { result ≡ write_call driver name value }
-{
-    let n = written(name);
-    let bits = float::to_bits(value);
-    Call {
-        kind: 2,
-        driver: driver,
-        name: n,
-        argument: 0,
-        level: bits,
+    // The scenes that the device has, by name. An `if` here and in `live_faders`, and no `then`: the proof over its closure did not close.
+    #[tactic(auto, unfolding(crate::specs::Talk::scenes_of, crate::specs::Talk::next, crate::specs::Shown::reply_in, crate::specs::Answers::items_of), using(crate::proofs::Laws::plain_listing))]
+    pub fn scenes(&mut self, driver: u8) -> Option<Names>
+        ensures { got (listed result) (shown self.new) ≡ scenes_of driver (shown self.old) }
+    {
+        let list = self.use_call(plain(Kind::Scenes, driver, 0, 0));
+        if list.answer.is_list() {
+            Some(list.names())
+        } else {
+            None
+        }
     }
-}
 
-pub fn write(
-    answers: &[u8],
-    calls: &mut [u8; 5392],
-    messages: &mut [u8; 306],
-    io: Io,
-    driver: u8,
-    name: u16,
-    value: f64,
-) -> Tried
-    ensures { got result.ok (shown answers.now result.io calls.new messages.new) ≡ write_of driver name value (shown answers.now io calls.old messages.old) }
-{
-    let c = writing(driver, name, value);
-    done(answers, calls, messages, io, c)
-}
-
-pub fn toggle(
-    answers: &[u8],
-    calls: &mut [u8; 5392],
-    messages: &mut [u8; 306],
-    io: Io,
-    driver: u8,
-    name: u16,
-) -> Tried
-    ensures { got result.ok (shown answers.now result.io calls.new messages.new) ≡ toggle_of driver name (shown answers.now io calls.old messages.old) }
-{
-    let c = plain(3, driver, name, 0);
-    done(answers, calls, messages, io, c)
-}
-
-pub fn command(
-    answers: &[u8],
-    calls: &mut [u8; 5392],
-    messages: &mut [u8; 306],
-    io: Io,
-    driver: u8,
-    name: u16,
-    what: u16,
-) -> Tried
-    ensures { got result.ok (shown answers.now result.io calls.new messages.new) ≡ command_of driver name what (shown answers.now io calls.old messages.old) }
-{
-    let c = plain(4, driver, name, what as u32);
-    done(answers, calls, messages, io, c)
-}
-
-// Whether the player said yes or no, and so is there at all.
-pub fn playing(
-    answers: &[u8],
-    calls: &mut [u8; 5392],
-    messages: &mut [u8; 306],
-    io: Io,
-    driver: u8,
-    name: u16,
-) -> Tried
-    ensures { got result.ok (shown answers.now result.io calls.new messages.new) ≡ playing_of driver name (shown answers.now io calls.old messages.old) }
-{
-    let c = plain(5, driver, name, 0);
-    let g = use_call(answers, calls, messages, io, c);
-    let u = g.io;
-    let a = g.answer;
-    let ok = parse::is_yes_no(a);
-    Tried { io: u, ok: ok }
-}
-
-// The names of a list's items.
-fn names_of(answers: &[u8], from: usize, count: usize) -> Names
-    requires { Listing answers.now 6 from count }
-    ensures result_value { seen_names result ≡ map name_of (items_of count (drop from answers.now)) }
-    ensures count_bound { result.count ≤ 128 }
-{
-    let mut list = [0u16; 128];
-    let mut i: usize = 0;
-    while i < count {
-        list[i] = base::read_u16(answers, from + (16 * i + 18));
-        i += 1;
+    // The scene that the device has loaded, as a place in its own list.
+    #[tactic(auto, unfolding(crate::specs::Talk::current_of, crate::specs::Talk::next, crate::specs::Shown::reply_in))]
+    pub fn current_scene(&mut self, driver: u8) -> Option<u32>
+        ensures { got result (shown self.new) ≡ current_of driver (shown self.old) }
+    {
+        match self.use_call(plain(Kind::Current, driver, 0, 0)).answer {
+            Answer::Index(i) => Some(i),
+            _ => None,
+        }
     }
-    Names {
-        list: list,
-        count: count,
+
+    #[tactic(auto, unfolding(crate::specs::Talk::load_of, crate::specs::Talk::next, crate::specs::Shown::reply_in))]
+    pub fn load_scene(&mut self, driver: u8, place: u32) -> bool
+        ensures { got result (shown self.new) ≡ load_of driver place (shown self.old) }
+    {
+        self.done(plain(Kind::Load, driver, 0, place))
+    }
+
+    // The faders that a live bank of the driver has right now.
+    #[tactic(auto, unfolding(crate::specs::Talk::live_of, crate::specs::Talk::next, crate::specs::Shown::reply_in, crate::specs::Answers::items_of), using(crate::proofs::Laws::plain_listing))]
+    pub fn live_faders(&mut self, driver: u8, which: u16) -> Option<LiveFaders>
+        ensures { got (listed result) (shown self.new) ≡ live_of driver which (shown self.old) }
+    {
+        let list = self.use_call(plain(Kind::Live, driver, 0, u32::from(which)));
+        if list.answer.is_list() {
+            Some(list.faders())
+        } else {
+            None
+        }
+    }
+
+    // ── send ──
+
+    // Where the next message goes, if the line goes on and the buffer has room; it counts as sent.
+    #[tactic(auto, using(crate::proofs::Laws::no_place, crate::proofs::Laws::no_room, crate::proofs::Laws::placed))]
+    fn next_message(&mut self) -> Option<usize>
+        ensures { Places self.old result self.new }
+    {
+        if !self.stop.is_going() {
+            return None;
+        }
+        if 102 <= self.sent {
+            self.stop = Stop::Overrun;
+            return None;
+        }
+        let at = 3 * self.sent;
+        self.sent += 1;
+        Some(at)
+    }
+
+    // A lamp's message, behind the event's messages already there. Each lamp and each position has its writer by a rule of the project, so that the senders are two.
+    #[tactic(auto, using(base::specs::Tail::tail_over))]
+    pub fn send_led(&mut self, note: u8, on: bool)
+        ensures { shown self.new ≡ send (Led note on) (shown self.old) }
+    {
+        if let Some(at) = self.next_message() {
+            protocol::write_led(&mut self.messages[at..], note, on);
+        }
+    }
+
+    // Every position that is sent goes through here.
+    #[tactic(auto, using(base::specs::Tail::tail_over))]
+    pub fn send_position(&mut self, channel: u8, value: f64)
+        ensures { shown self.new ≡ send (sent_to channel value) (shown self.old) }
+    {
+        if let Some(at) = self.next_message() {
+            protocol::write_position(&mut self.messages[at..], channel, value);
+        }
     }
 }
 
-// The scenes that the device has, by name.
-pub fn scenes(
-    answers: &[u8],
-    calls: &mut [u8; 5392],
-    messages: &mut [u8; 306],
-    io: Io,
-    driver: u8,
-) -> SceneList
-    ensures messages_after { got (listed result.ok (seen_names result.names)) (shown answers.now result.io calls.new messages.new) ≡ scenes_of driver (shown answers.now io calls.old messages.old) }
-    ensures count_bound { result.names.count ≤ 128 }
-{
-    let c = plain(6, driver, 0, 0);
-    let g = use_call(answers, calls, messages, io, c);
-    let u = g.io;
-    let a = g.answer;
-    let ok = parse::is_list(a);
-    let names = names_of(answers, g.from, g.count);
-    SceneList {
-        io: u,
-        ok: ok,
-        names: names,
+impl Reply<'_> {
+    // The names of a list's items.
+    #[tactic(auto, unfolding(crate::specs::Shown::reply_in), using(crate::proofs::Laws::names_more))]
+    fn names(&self) -> Names
+        requires { Listing 6 self.now }
+        ensures { result ≡ map name_of (reply_in self.now).items }
+    {
+        let mut names = Names::none();
+        for i in 0..self.count {
+            names.push(base::read_u16(self.part, 16 * i + 18));
+        }
+        names
     }
-}
 
-fn index_of(a: Answer) -> Option<u32>
-    ensures { result ≡ index_of a }
-{
-    match a {
-        Answer::Index(i) => Some(i),
-        _ => None,
+    // Item i of a list of live faders.
+    fn fader(&self, i: usize) -> LiveFader
+        requires { 16 * i + 32 ≤ length self.now.part.now }
+        ensures { result ≡ item_at self.now.part.now i }
+    {
+        let at = 16 * i + 16;
+        LiveFader {
+            number: self.part[at + 1],
+            target: base::read_u16(self.part, at + 2),
+            label: base::read_u16(self.part, at + 4),
+            group: base::read_u16(self.part, at + 6),
+            mute: base::read_u16(self.part, at + 8),
+        }
     }
-}
 
-// The scene that the device has loaded, as a place in its own list.
-pub fn current_scene(
-    answers: &[u8],
-    calls: &mut [u8; 5392],
-    messages: &mut [u8; 306],
-    io: Io,
-    driver: u8,
-) -> Current
-    ensures { got result.index (shown answers.now result.io calls.new messages.new) ≡ current_of driver (shown answers.now io calls.old messages.old) }
-{
-    let c = plain(7, driver, 0, 0);
-    let g = use_call(answers, calls, messages, io, c);
-    let u = g.io;
-    let a = g.answer;
-    let i = index_of(a);
-    Current { io: u, index: i }
-}
-
-pub fn load_scene(
-    answers: &[u8],
-    calls: &mut [u8; 5392],
-    messages: &mut [u8; 306],
-    io: Io,
-    driver: u8,
-    place: u32,
-) -> Tried
-    ensures { got result.ok (shown answers.now result.io calls.new messages.new) ≡ load_of driver place (shown answers.now io calls.old messages.old) }
-{
-    let c = plain(8, driver, 0, place);
-    done(answers, calls, messages, io, c)
-}
-
-// Item i of a list of live faders.
-fn fader_at(answers: &[u8], from: usize, i: usize) -> LiveFader
-    requires { from + (16 * i + 32) ≤ length answers.now }
-    ensures { result ≡ item_at (drop from answers.now) i }
-{
-    let at = from + (16 * i + 16);
-    LiveFader {
-        number: answers[at + 1],
-        target: base::read_u16(answers, at + 2),
-        label: base::read_u16(answers, at + 4),
-        group: base::read_u16(answers, at + 6),
-        mute: base::read_u16(answers, at + 8),
+    #[tactic(auto, unfolding(crate::specs::Shown::reply_in), using(crate::proofs::Laws::items_more))]
+    fn faders(&self) -> LiveFaders
+        requires { Listing 9 self.now }
+        ensures { result ≡ (reply_in self.now).items }
+    {
+        let mut faders = LiveFaders::none();
+        for i in 0..self.count {
+            faders.push(self.fader(i));
+        }
+        faders
     }
-}
-
-fn faders_of(answers: &[u8], from: usize, count: usize) -> FaderList
-    requires { Listing answers.now 9 from count }
-    ensures result_value { seen_faders result ≡ items_of count (drop from answers.now) }
-    ensures count_bound { result.count ≤ 32 }
-{
-    let none = LiveFader {
-        number: 0,
-        target: 0,
-        label: 0,
-        group: 0,
-        mute: 0,
-    };
-    let mut list = [none; 32];
-    let mut i: usize = 0;
-    while i < count {
-        list[i] = fader_at(answers, from, i);
-        i += 1;
-    }
-    FaderList {
-        list: list,
-        count: count,
-    }
-}
-
-// The faders that a live bank has now.
-pub fn live_faders(
-    answers: &[u8],
-    calls: &mut [u8; 5392],
-    messages: &mut [u8; 306],
-    io: Io,
-    driver: u8,
-    which: u16,
-) -> Lives
-    ensures messages_after { got (listed result.ok (seen_faders result.faders)) (shown answers.now result.io calls.new messages.new) ≡ live_of driver which (shown answers.now io calls.old messages.old) }
-    ensures count_bound { result.faders.count ≤ 32 }
-{
-    let c = plain(9, driver, 0, which as u32);
-    let g = use_call(answers, calls, messages, io, c);
-    let u = g.io;
-    let a = g.answer;
-    let ok = parse::is_list(a);
-    let faders = faders_of(answers, g.from, g.count);
-    Lives {
-        io: u,
-        ok: ok,
-        faders: faders,
-    }
-}
-
-// ── send ──
-
-fn one_sent(io: Io) -> Io
-    requires { io.sent < 102 }
-    ensures { result ≡ sent_one io }
-{
-    let mut u = io;
-    u.sent = u.sent + 1;
-    u
-}
-
-fn no_room(io: Io) -> Io
-    ensures { result ≡ roomless io }
-{
-    let mut u = io;
-    u.stop = OVERRUN;
-    u
-}
-
-// A lamp's message, over the buffer as a slice, whose tail is lent to the writer.
-fn led_in(messages: &mut [u8], io: Io, note: u8, on: bool) -> Io
-    requires { 306 ≤ length messages.old }
-    ensures { (ans cs : List ℕ) → shown ans result cs messages.new ≡ send (Led note on) (shown ans io cs messages.old) }
-{
-    if io.stop != GOING {
-        return io;
-    }
-    let n = io.sent;
-    if 102 <= n {
-        return no_room(io);
-    }
-    let at = 3 * n;
-    protocol::write_led(&mut messages[at..], note, on);
-    one_sent(io)
-}
-
-// A position's message, the same way.
-fn position_in(messages: &mut [u8], io: Io, channel: u8, value: f64) -> Io
-    requires { 306 ≤ length messages.old }
-    ensures { (ans cs : List ℕ) → shown ans result cs messages.new ≡ send (sent_to channel value) (shown ans io cs messages.old) }
-{
-    if io.stop != GOING {
-        return io;
-    }
-    let n = io.sent;
-    if 102 <= n {
-        return no_room(io);
-    }
-    let at = 3 * n;
-    protocol::write_position(&mut messages[at..], channel, value);
-    one_sent(io)
-}
-
-// A lamp's message, behind the event's messages already there.
-pub fn send_led(
-    answers: &[u8],
-    calls: &mut [u8; 5392],
-    messages: &mut [u8; 306],
-    io: Io,
-    note: u8,
-    on: bool,
-) -> Io
-    ensures { shown answers.now result calls.new messages.new ≡ send (Led note on) (shown answers.now io calls.old messages.old) }
-{
-    led_in(messages, io, note, on)
-}
-
-// Every position that is sent goes through here.
-pub fn send_position(
-    answers: &[u8],
-    calls: &mut [u8; 5392],
-    messages: &mut [u8; 306],
-    io: Io,
-    channel: u8,
-    value: f64,
-) -> Io
-    ensures { shown answers.now result calls.new messages.new ≡ send (sent_to channel value) (shown answers.now io calls.old messages.old) }
-{
-    position_in(messages, io, channel, value)
 }

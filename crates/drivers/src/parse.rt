@@ -1,13 +1,14 @@
 // The answer that stands first in a part of the answers, and whether it fits the call.
-ghost use Rattle.std.specs.Prelude.{◌≡◌, ◌+◌, ◌*◌, ◌/◌, ◌<◌, ◌≤◌, length};
+ghost use Rattle.std.specs.Prelude.{◌≡◌, cond, ◌+◌, ◌*◌, ◌/◌, ◌<◌, ◌≤◌, length};
 ghost use Rattle.base.specs.Range.{all};
 ghost use Rattle.drivers.specs.Answers.{item_fits, live_fits, scene_list, live_list, yes_no, to_read, to_playing, to_scenes, to_current, to_live, to_other, answer_of, is_unfit, is_done, is_yes_no, is_list};
 
-use crate::Answer;
+use crate::{Answer, Kind};
 
 // ── lists ──
 
-// Item i, counted from 0 behind its list's own record, is one, and its name is there.
+// Item i, counted from 0 behind its list's own record, is one, and its name is there. Items go by their number, as the definitions have them: two that follow each
+// other are compared, and chunks would lose the one before.
 fn item_fits(part: &[u8], i: usize) -> bool
     requires { i + 1 < length part.now / 16 }
     ensures { result ≡ item_fits part.now i }
@@ -28,154 +29,126 @@ fn live_fits(part: &[u8], i: usize) -> bool
                 & ((i == 0) | (part[16 * i + 1] < part[16 * i + 17]))))
 }
 
-// The first items all fit.
-fn items_fit(part: &[u8], count: usize) -> bool
-    requires { count < length part.now / 16 }
-    ensures { result ≡ all count (item_fits part.now) }
+fn fits(part: &[u8], i: usize, live: bool) -> bool
+    requires { i + 1 < length part.now / 16 }
+    ensures { result ≡ cond live (live_fits part.now i) (item_fits part.now i) }
 {
-    let mut i: usize = 0;
-    while i < count {
-        if !item_fits(part, i) {
-            return false;
-        }
-        i += 1;
+    if live {
+        live_fits(part, i)
+    } else {
+        item_fits(part, i)
     }
-    true
 }
 
-fn lives_fit(part: &[u8], count: usize) -> bool
+fn all_fit(part: &[u8], count: usize, live: bool) -> bool
     requires { count < length part.now / 16 }
-    ensures { result ≡ all count (live_fits part.now) }
+    ensures { result ≡ cond live (all count (live_fits part.now)) (all count (item_fits part.now)) }
 {
-    let mut i: usize = 0;
-    while i < count {
-        if !live_fits(part, i) {
-            return false;
-        }
-        i += 1;
-    }
-    true
+    (0..count).all(|i| fits(part, i, live))
 }
 
-fn scene_list(part: &[u8]) -> Answer
+// A list fits if it has no more items than it may have, all of them are there, and each of them fits.
+#[tactic(auto, unfolding(crate::specs::Answers::scene_list, crate::specs::Answers::live_list))]
+fn list(part: &[u8], live: bool) -> Answer
     requires { 16 ≤ length part.now }
-    ensures { result ≡ scene_list part.now }
+    ensures { result ≡ cond live (live_list part.now) (scene_list part.now) }
 {
-    let count = base::read_u16(part, 2) as usize;
-    let many = 128 < count;
-    if many {
+    let count = usize::from(base::read_u16(part, 2));
+    let most = if live { 32 } else { 128 };
+    if (most < count) | (part.len() / 16 <= count) {
         return Answer::Unfit;
     }
-    // all the items are there
-    if count < part.len() / 16 {
-        if items_fit(part, count) {
-            return Answer::List;
-        }
+    if all_fit(part, count, live) {
+        Answer::List
+    } else {
+        Answer::Unfit
     }
-    Answer::Unfit
-}
-
-fn live_list(part: &[u8]) -> Answer
-    requires { 16 ≤ length part.now }
-    ensures { result ≡ live_list part.now }
-{
-    let count = base::read_u16(part, 2) as usize;
-    if 32 < count {
-        return Answer::Unfit;
-    }
-    // all the items are there
-    if count < part.len() / 16 {
-        if lives_fit(part, count) {
-            return Answer::List;
-        }
-    }
-    Answer::Unfit
 }
 
 // ── one record, of kind k, to each kind of call ──
 
+#[tactic(auto, unfolding(crate::specs::Answers::yes_no))]
 fn yes_no(b: u8) -> Answer
     ensures { result ≡ yes_no b }
 {
-    if b == 0 {
-        return Answer::YesNo(false);
+    match b {
+        0 => Answer::YesNo(false),
+        1 => Answer::YesNo(true),
+        _ => Answer::Unfit,
     }
-    if b == 1 {
-        return Answer::YesNo(true);
-    }
-    Answer::Unfit
 }
 
+#[tactic(auto, unfolding(crate::specs::Answers::to_read))]
 fn to_read(part: &[u8], k: u8) -> Answer
     requires { 16 ≤ length part.now }
     ensures { result ≡ to_read k part.now }
 {
-    if k == 2 {
-        return Answer::Level(float::read_f64(part, 8));
+    match k {
+        2 => Answer::Level(float::read_f64(part, 8)),
+        3 => Answer::Nothing,
+        _ => Answer::Unfit,
     }
-    if k == 3 {
-        return Answer::Nothing;
-    }
-    Answer::Unfit
 }
 
+#[tactic(auto, unfolding(crate::specs::Answers::to_playing))]
 fn to_playing(part: &[u8], k: u8) -> Answer
     requires { 16 ≤ length part.now }
     ensures { result ≡ to_playing k part.now }
 {
-    if k == 4 {
-        return yes_no(part[1]);
+    match k {
+        4 => yes_no(part[1]),
+        3 => Answer::Nothing,
+        _ => Answer::Unfit,
     }
-    if k == 3 {
-        return Answer::Nothing;
-    }
-    Answer::Unfit
 }
 
+#[tactic(auto, unfolding(crate::specs::Answers::to_scenes))]
 fn to_scenes(part: &[u8], k: u8) -> Answer
     requires { 16 ≤ length part.now }
     ensures { result ≡ to_scenes k part.now }
 {
-    if k == 6 {
-        return scene_list(part);
+    match k {
+        6 => list(part, false),
+        _ => Answer::Unfit,
     }
-    Answer::Unfit
 }
 
+#[tactic(auto, unfolding(crate::specs::Answers::to_current))]
 fn to_current(part: &[u8], k: u8) -> Answer
     requires { 16 ≤ length part.now }
     ensures { result ≡ to_current k part.now }
 {
-    if k == 5 {
-        return Answer::Index(base::read_u32(part, 4));
+    match k {
+        5 => Answer::Index(base::read_u32(part, 4)),
+        3 => Answer::Nothing,
+        _ => Answer::Unfit,
     }
-    if k == 3 {
-        return Answer::Nothing;
-    }
-    Answer::Unfit
 }
 
+#[tactic(auto, unfolding(crate::specs::Answers::to_live))]
 fn to_live(part: &[u8], k: u8) -> Answer
     requires { 16 ≤ length part.now }
     ensures { result ≡ to_live k part.now }
 {
-    if k == 6 {
-        return live_list(part);
+    match k {
+        6 => list(part, true),
+        _ => Answer::Unfit,
     }
-    Answer::Unfit
 }
 
 // To an open, a write, a toggle, a command or a load.
+#[tactic(auto, unfolding(crate::specs::Answers::to_other))]
 fn to_other(k: u8) -> Answer
     ensures { result ≡ to_other k }
 {
-    if k == 1 {
-        return Answer::Done;
+    match k {
+        1 => Answer::Done,
+        _ => Answer::Unfit,
     }
-    Answer::Unfit
 }
 
 // The answer that stands first in the part, to a call of the kind.
+#[tactic(auto, unfolding(crate::specs::Answers::answer_of))]
 pub fn first(part: &[u8], kind: u8) -> Answer
     ensures { result ≡ answer_of part.now kind }
 {
@@ -186,38 +159,40 @@ pub fn first(part: &[u8], kind: u8) -> Answer
     if k == 0 {
         return Answer::Refused;
     }
-    match kind {
-        1 => to_read(part, k),
-        5 => to_playing(part, k),
-        6 => to_scenes(part, k),
-        7 => to_current(part, k),
-        9 => to_live(part, k),
+    match Kind::try_from(kind) {
+        Ok(Kind::Read) => to_read(part, k),
+        Ok(Kind::Playing) => to_playing(part, k),
+        Ok(Kind::Scenes) => to_scenes(part, k),
+        Ok(Kind::Current) => to_current(part, k),
+        Ok(Kind::Live) => to_live(part, k),
         _ => to_other(k),
     }
 }
 
 // ── which case an answer is ──
 
-pub fn is_unfit(a: Answer) -> bool
-    ensures { result ≡ is_unfit a }
-{
-    matches!(a, Answer::Unfit)
-}
+impl Answer {
+    pub fn is_unfit(&self) -> bool
+        ensures { result ≡ is_unfit self.now }
+    {
+        matches!(self, Answer::Unfit)
+    }
 
-pub fn is_done(a: Answer) -> bool
-    ensures { result ≡ is_done a }
-{
-    matches!(a, Answer::Done)
-}
+    pub fn is_done(&self) -> bool
+        ensures { result ≡ is_done self.now }
+    {
+        matches!(self, Answer::Done)
+    }
 
-pub fn is_yes_no(a: Answer) -> bool
-    ensures { result ≡ is_yes_no a }
-{
-    matches!(a, Answer::YesNo(_))
-}
+    pub fn is_yes_no(&self) -> bool
+        ensures { result ≡ is_yes_no self.now }
+    {
+        matches!(self, Answer::YesNo(_))
+    }
 
-pub fn is_list(a: Answer) -> bool
-    ensures { result ≡ is_list a }
-{
-    matches!(a, Answer::List)
+    pub fn is_list(&self) -> bool
+        ensures { result ≡ is_list self.now }
+    {
+        matches!(self, Answer::List)
+    }
 }

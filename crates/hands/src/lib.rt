@@ -1,8 +1,6 @@
 #![tactic(auto)]
 
 // What the operator's hands do: a move of a fader (`faders`), a turn of an encoder and the drain (`encoders`).
-use drivers::Io;
-
 pub mod encoders;
 pub mod faders;
 
@@ -12,10 +10,4 @@ pub enum Verdict {
     Ignored,
     Held,
     Taken,
-}
-
-#[derive(Clone, Copy)]
-pub struct Faded {
-    pub io: Io,
-    pub verdict: Verdict,
 }

@@ -1,16 +1,11 @@
--- What a refresh leaves of the current bank. Definitions only.
-use Rattle.std.specs.Prelude.{◌≤◌, ◌≡◌, true}
+-- What a refresh leaves of a live bank. Definitions only.
+use Rattle.std.specs.Prelude.{List, true, false, Option, None, Some}
 use Rattle.session.specs.Session.{seen_strips, strips_or}
-use Rattle.definition.specs.Live as live
-use Rattle.rig.specs.declared.Current.{Current}
-use Rattle.live.specs.declared.Refreshed.{Refreshed}
+use Rattle.session.specs.declared.Strip.{Strip}
+use Rattle.session.specs.declared.Strips.{Strips}
+use Rattle.definition.specs.Live.{Refreshed, refreshed}
 
--- what the definition sees of it
-abbrev pub seen_again : Refreshed → live.Refreshed
-seen_again r = live.refreshed (strips_or (seen_strips r.here.strips)) r.changed
-
--- the bank stays the current one, its strips have their places, and a list that changed is known
-pub record StillHere (before : Current) (r : Refreshed) : Type 0 where
-  pub bank : r.here.bank ≡ before.bank
-  pub few : r.here.strips.count ≤ 8
-  pub known : r.changed ≡ true → r.here.strips.known ≡ true
+-- what the definition sees of it: the list as it was before, or another one
+abbrev pub seen_again : List Strip → Option Strips → Refreshed
+seen_again before None = refreshed before false
+seen_again before (Some s) = refreshed (strips_or (seen_strips s)) true

@@ -1,91 +1,83 @@
 #![tactic(auto)]
 
 // A live bank's faders, asked of its driver right after a change and then once a second: `refresh_live` of bridge.rs.
-ghost use Rattle.std.specs.Prelude.{◌≡◌, ◌≤◌, take};
-ghost use Rattle.profile.specs.Profile.{verdict};
+ghost use Rattle.std.specs.Prelude.{◌≡◌, ◌≤◌, true, false, Some, IfSome};
 ghost use Rattle.drivers.specs.Talk.{got};
-ghost use Rattle.drivers.specs.Shown.{shown};
+ghost use Rattle.drivers.specs.Shown.{shown, listed};
 ghost use Rattle.session.specs.Session.{seen_strips, strips_or};
-ghost use Rattle.definition.specs.Live.{same_as, refresh_live, refresh_due, is_due};
-ghost use Rattle.rig.specs.Seen.{rig_in};
-ghost use Rattle.live.specs.Again.{seen_again, StillHere};
+ghost use Rattle.definition.specs.Live.{handed, same_as, ask_if, refresh_live, refresh_due, is_due};
+ghost use Rattle.rig.specs.Seen.{here_in, rig_in};
+ghost use Rattle.live.specs.Again.{seen_again};
 
-use drivers::Io;
-use rig::Current;
+use drivers::{Io, LiveFaders};
+use rig::{Accepted, Current};
 use session::{Lamps, Strips};
-
-// The current bank, with the strips that it has now.
-#[derive(Clone, Copy)]
-pub struct Refreshed {
-    pub io: Io,
-    pub here: Current,
-    pub changed: bool,
-}
+use surface::lamps::push_state;
 
 // Whether the driver was asked before, and handed over the same.
-fn is_as_before(before: Strips, after: Strips) -> bool
-    requires count_bound { before.count ≤ 8 }
-    requires count_bound_2 { after.count ≤ 8 }
-    ensures { result ≡ same_as (seen_strips before) (strips_or (seen_strips after)) }
+#[tactic(auto, unfolding(session::specs::Session::seen_strips))]
+fn is_as_before(before: &Strips, after: &Strips) -> bool
+    requires before_few { before.now.known ≡ true → before.now.count ≤ 8 }
+    requires after_few { after.now.known ≡ true → after.now.count ≤ 8 }
+    ensures { result ≡ same_as (seen_strips before.now) (strips_or (seen_strips after.now)) }
 {
-    if !before.known {
-        return false;
-    }
-    session::same_strips(before, after)
+    before.known && before.same(after)
 }
 
-// Asks a live bank's driver which faders it has now. A refusal counts as an empty list, and the first list always as a change.
-fn refresh_live(
-    answers: &[u8],
-    calls: &mut [u8; 5392],
-    messages: &mut [u8; 306],
-    io: Io,
-    profile: &[u8],
-    here: Current,
-    lamps: Lamps,
-    targets: &[u16; 256],
-    hushed: usize,
-) -> Refreshed
-    requires profile_value { verdict profile.now ≡ 0 }
-    requires count_bound { here.strips.count ≤ 8 }
-    requires hushed_bound { hushed ≤ 256 }
-    ensures messages_after { got (seen_again result) (shown answers.now result.io calls.new messages.new) ≡ refresh_live (seen_strips here.strips) (rig_in profile.now here) lamps (take hushed targets.now) (shown answers.now io calls.old messages.old) }
-    ensures still_here { StillHere here result }
+// What the driver handed over. A refusal counts as an empty list.
+#[tactic(auto, unfolding(session::specs::Session::strips_of, base::specs::Keyed::keep), using(session::specs::SessionLaws::is_known))]
+fn handed(driver: u8, faders: Option<LiveFaders>) -> Strips
+    ensures value { seen_strips result ≡ Some (handed driver (listed faders)) }
+    ensures known { (result.known ≡ true) × (result.count ≤ 8) }
 {
-    let which = lookup::live_of(profile, here.bank);
-    let name = lookup::device_of(profile, here.bank);
-    if (which == 65535) | (name == 65535) {
-        return Refreshed {
-            io: io,
-            here: here,
-            changed: false,
-        };
+    match faders {
+        Some(f) => Strips::handed_over(driver, f.as_slice()),
+        None => Strips::none(),
     }
-    let driver = name as u8;
-    let g = drivers::live_faders(answers, calls, messages, io, driver, which);
-    let u = g.io;
-    let faders = g.faders;
-    let strips = session::handed_over(driver, faders);
-    let before = here.strips;
-    if is_as_before(before, strips) {
-        return Refreshed {
-            io: u,
-            here: here,
-            changed: false,
-        };
+}
+
+// Asks the driver which faders the bank has now: its list, where that is another one. The first always is.
+#[tactic(auto, unfolding(drivers::specs::Talk::next))]
+fn ask(
+    io: &mut Io<'_>,
+    here: &Current<'_>,
+    driver: u8,
+    which: u16,
+    lamps: &Lamps,
+    hushed: &[u16],
+) -> Option<Strips>
+    requires driver_value { driver ≡ (here_in here.now).part.device }
+    requires which_value { which ≡ (here_in here.now).part.live }
+    ensures value { got (seen_again (here_in here.now).strips result) (shown io.new) ≡ ask_if false (seen_strips here.now.strips.now) (rig_in here.now) lamps.now hushed.now (shown io.old) }
+    ensures known { IfSome result (λ s. (s.known ≡ true) × (s.count ≤ 8)) }
+{
+    let strips = handed(driver, io.live_faders(driver, which));
+    if is_as_before(here.strips, &strips) {
+        return None;
     }
     let there = Current {
+        profile: here.profile,
         bank: here.bank,
-        strips: strips,
+        strips: &strips,
     };
-    let v = surface::lamps::push_state(
-        answers, calls, messages, u, profile, there, lamps, targets, hushed,
-    );
-    Refreshed {
-        io: v,
-        here: there,
-        changed: true,
-    }
+    push_state(io, &there, lamps, hushed);
+    Some(strips)
+}
+
+// A bank that is not live, or has no driver of its own, asks nobody.
+fn refresh_live(
+    io: &mut Io<'_>,
+    here: &Accepted<'_>,
+    lamps: &Lamps,
+    hushed: &[u16],
+) -> Option<Strips>
+    ensures value { got (seen_again (here_in here.now.here).strips result) (shown io.new) ≡ refresh_live (seen_strips here.now.here.strips.now) (rig_in here.now.here) lamps.now hushed.now (shown io.old) }
+    ensures known { IfSome result (λ s. (s.known ≡ true) × (s.count ≤ 8)) }
+{
+    let Current { profile, bank, .. } = here.here;
+    let driver = here.own_driver()?;
+    let which = lookup::live_of(profile, bank)?;
+    ask(io, &here.here, driver, which, lamps, hushed)
 }
 
 // Right after a change, then once a second.
@@ -95,33 +87,20 @@ pub fn is_due(due: bool, at: f64, time: f64) -> bool
     due | (time - at >= 1.0)
 }
 
-// A live bank's faders, where they are due.
+// A live bank's faders, where they are due: its list, where that is another one.
 pub fn refresh(
-    answers: &[u8],
-    calls: &mut [u8; 5392],
-    messages: &mut [u8; 306],
-    io: Io,
-    profile: &[u8],
-    here: Current,
-    lamps: Lamps,
-    targets: &[u16; 256],
-    hushed: usize,
+    io: &mut Io<'_>,
+    here: &Accepted<'_>,
+    lamps: &Lamps,
+    hushed: &[u16],
     due: bool,
-) -> Refreshed
-    requires profile_value { verdict profile.now ≡ 0 }
-    requires count_bound { here.strips.count ≤ 8 }
-    requires hushed_bound { hushed ≤ 256 }
-    ensures messages_after { got (seen_again result) (shown answers.now result.io calls.new messages.new) ≡ refresh_due due (seen_strips here.strips) (rig_in profile.now here) lamps (take hushed targets.now) (shown answers.now io calls.old messages.old) }
-    ensures still_here { StillHere here result }
+) -> Option<Strips>
+    ensures value { got (seen_again (here_in here.now.here).strips result) (shown io.new) ≡ refresh_due due (seen_strips here.now.here.strips.now) (rig_in here.now.here) lamps.now hushed.now (shown io.old) }
+    ensures known { IfSome result (λ s. (s.known ≡ true) × (s.count ≤ 8)) }
 {
-    if !due {
-        return Refreshed {
-            io: io,
-            here: here,
-            changed: false,
-        };
+    if due {
+        refresh_live(io, here, lamps, hushed)
+    } else {
+        None
     }
-    refresh_live(
-        answers, calls, messages, io, profile, here, lamps, targets, hushed,
-    )
 }

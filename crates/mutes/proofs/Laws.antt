@@ -1,28 +1,27 @@
--- A mute of its own that is to be as asked. Assumes nothing.
-use mathlib.Core.Path.{◌≡◌, refl}
-use mathlib.Core.Bool.{Bool, true, false, ◌&&◌, not, beq, false≢true}
-use borrow.Author.Tests.{not-true, not-false}
+-- Which targets are silenced, and room for one more. Assumes nothing.
+use Rattle.std.specs.Prelude.{◌≡◌, Bool, true, false, List, ℕ, Float, None, Option, Some}
+use Rattle.std.proofs.Common.{sym, subst, ◌∙◌}
+use Rattle.base.specs.Choice.{pick}
 use Rattle.lookup.specs.declared.Destination.{Destination}
-use Rattle.drivers.specs.Talk.{Talk, got, toggle_of}
-use Rattle.definition.specs.Levels.{read_mute}
-use Rattle.definition.specs.Muting.{set_after, set_mute}
-use Rattle.rig.specs.Seen.{mute_if}
+use Rattle.session.specs.Session.{Hushed, targets_of, is_hushed, hushed_level, has_room}
+use Rattle.definition.specs.Levels.{kept_by, has_mute}
+use Rattle.mutes.specs.Held.{room_for, room_at}
+use Rattle.mutes.specs.HeldLaws.{held_some, held_none}
 
--- ── a mute of its own: what was read is known and m, and it is to be as asked ──
+-- ── the silenced ──
 
-module _ (d : Destination) (asked known m : Bool) (t u : Talk) (e : got (mute_if known m) u ≡ read_mute d t) where
-  pub differs : (ok : Bool) (v : Talk) → (known && not (beq m asked)) ≡ true → got ok v ≡ toggle_of d.driver d.mute u → v ≡ set_mute d asked t
-  unfolding set_mute
-  differs ok v h q = rw (← e) (go known h)
-    where
-      go : (k : Bool) → (k && not (beq m asked)) ≡ true → v ≡ set_after asked d (got (mute_if k m) u)
-      go true h = rw (not-true (beq m asked) h, ← q)
-      go false h = absurd (false≢true h)
+-- a target is silenced exactly if its level is kept
+pub is_hushed_lem : (target : ℕ) (s : List Hushed) (l : Option Float) (x : Float) → l ≡ hushed_level target s → l ≡ Some x → is_hushed target (targets_of s) ≡ true
+is_hushed_lem target s l x e h = held_some target s x (sym h ∙ e)
 
-  pub same : (known && not (beq m asked)) ≡ false → u ≡ set_mute d asked t
-  unfolding set_mute
-  same h = rw (← e) (go known h)
-    where
-      go : (k : Bool) → (k && not (beq m asked)) ≡ false → u ≡ set_after asked d (got (mute_if k m) u)
-      go true h = rw (not-false (beq m asked) h)
-      go false h = refl
+pub not_hushed : (target : ℕ) (s : List Hushed) (l : Option Float) → l ≡ hushed_level target s → l ≡ None → is_hushed target (targets_of s) ≡ false
+not_hushed target s l e h = held_none target s (sym h ∙ e)
+
+-- ── room ──
+
+-- b is whether the destination has a mute, and f what the fader is wired to, as the code has them
+pub room_for_lem : (d : Destination) (l : List ℕ) (b : Bool) → b ≡ has_mute d → b ≡ false → room_for d l ≡ true → has_room (kept_by d) l ≡ true
+room_for_lem d l b e h r = subst (λ x. pick x true (has_room (kept_by d) l) ≡ true) (sym e ∙ h) r
+
+pub room_at_lem : (f g : Option Destination) (d : Destination) (l : List ℕ) → f ≡ g → f ≡ Some d → room_at g l ≡ true → room_for d l ≡ true
+room_at_lem f g d l e h r = subst (λ x. room_at x l ≡ true) (sym e ∙ h) r

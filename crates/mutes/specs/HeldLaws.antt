@@ -1,14 +1,8 @@
--- Which targets are silenced, and room for one more. Assumes nothing.
+-- Which targets are silenced. Assumes nothing.
 use Rattle.std.specs.Prelude.{◌≡◌, refl, Bool, true, false, List, [], ◌∷◌, ℕ, eqb, Float, None, Option, Some}
-use Rattle.std.proofs.Common.{sym, subst, ◌∙◌}
 use Rattle.base.specs.Choice.{pick}
 use Rattle.base.specs.Keyed.{find, any_of}
-use Rattle.lookup.specs.declared.Destination.{Destination}
-use Rattle.session.specs.Session.{Hushed, targets_of, same_target, is_target, is_hushed, level_for, hushed_level, has_room}
-use Rattle.definition.specs.Levels.{kept_by, has_mute}
-use Rattle.mutes.specs.Held.{room_for, room_at}
-
--- ── the silenced ──
+use Rattle.session.specs.Session.{Hushed, targets_of, same_target, is_target, is_hushed, level_for, hushed_level}
 
 abbrev held : Option Float → Bool
 held (Some x) = true
@@ -25,17 +19,8 @@ is_held target (e ∷ s) = go (eqb e.target target) (is_held target s)
     go false h = h
 
 -- a target is silenced exactly if its level is kept
-pub is_hushed_lem : (target : ℕ) (s : List Hushed) (l : Option Float) (x : Float) → l ≡ hushed_level target s → l ≡ Some x → is_hushed target (targets_of s) ≡ true
-is_hushed_lem target s l x e h = rw (is_held target s, ← e, h)
+pub held_some : (target : ℕ) (s : List Hushed) (x : Float) → Some x ≡ hushed_level target s → is_hushed target (targets_of s) ≡ true
+held_some target s x e = rw (is_held target s, ← e)
 
-pub not_hushed : (target : ℕ) (s : List Hushed) (l : Option Float) → l ≡ hushed_level target s → l ≡ None → is_hushed target (targets_of s) ≡ false
-not_hushed target s l e h = rw (is_held target s, ← e, h)
-
--- ── room ──
-
--- b is whether the destination has a mute, and f what the fader is wired to, as the code has them
-pub room_for_lem : (d : Destination) (l : List ℕ) (b : Bool) → b ≡ has_mute d → b ≡ false → room_for d l ≡ true → has_room (kept_by d) l ≡ true
-room_for_lem d l b e h r = subst (λ x. pick x true (has_room (kept_by d) l) ≡ true) (sym e ∙ h) r
-
-pub room_at_lem : (f g : Option Destination) (d : Destination) (l : List ℕ) → f ≡ g → f ≡ Some d → room_at g l ≡ true → room_for d l ≡ true
-room_at_lem f g d l e h r = subst (λ x. room_at x l ≡ true) (sym e ∙ h) r
+pub held_none : (target : ℕ) (s : List Hushed) → None ≡ hushed_level target s → is_hushed target (targets_of s) ≡ false
+held_none target s e = rw (is_held target s, ← e)

@@ -1,31 +1,19 @@
 -- The bank's own faders, counted up one at a time: their drivers, and the first target on a driver. Assumes nothing.
-use Rattle.std.proofs.Common.{None, Option, Some}
-use mathlib.Core.Path.{◌≡◌, refl}
+use Rattle.std.proofs.Common.{None, Option, Some, is_some}
+use mathlib.Core.Path.{◌≡◌, refl, sym, ap, ◌∙◌}
 use mathlib.Core.Logic.{◌⊎◌, inl, inr}
-use mathlib.Core.Bool.{Bool, true, false, not}
+use mathlib.Core.Bool.{Bool, true, false, true≢false, false≢true}
 use mathlib.Core.List.{List, [], ◌∷◌, ◌++◌, append-nil}
 use Prim.Native.Nat.{ℕ, zero, suc, ◌+◌, ◌≤◌, ◌<◌}
 use native.Mathlib.Numerals.{add-one}
 use native.Mathlib.Omega.{arith}
-use lib.Dec.{ltb}
-use lib.ListN.{length, take, set}
-use lib.Seq.{take-suc-set}
-use borrow.Author.Tests.{ltb-true, ltb-false}
-use Rattle.base.specs.Choice.{pick}
-use Rattle.lookup.specs.Lookup.{MayBeDriver}
+use lib.Dec.{leb}
+use borrow.Author.Tests.{leb-true, leb-false}
+use Rattle.rig.specs.Seen.{target_if}
+use Rattle.lookup.specs.Lookup.{named}
+use Rattle.lookup.specs.NamedLaws.{its_name, named_absent}
 use Rattle.lookup.specs.declared.Destination.{Destination}
-use Rattle.definition.specs.Rig.{Here, own_fader, driver_in, own_drivers, is_of, target_in, first_target}
-use Rattle.definition.specs.Buttons.{or_absent}
-
--- a test that is turned round
-pub not_is : (b : Bool) → not b ≡ pick b false true
-not_is true = refl
-not_is false = refl
-
--- what an accepted profile names as a bank's driver
-pub low_driver : (own : ℕ) {n : ℕ} → (n ≤ 15) ⊎ (n ≡ 65535) → own ≡ n → MayBeDriver own
-low_driver own (inl h) e = inl (omega arith)
-low_driver own (inr h) e = inr (omega arith)
+use Rattle.definition.specs.Rig.{Here, own_fader, driver_in, own_drivers, first_target}
 
 -- ── what a fader adds to the drivers so far ──
 
@@ -52,24 +40,36 @@ module _ (h : Here) where
     unfolding first_target
     no_target = refl
 
-    pub not_yet : (n : ℕ) (f : Option Destination) (b : Bool) → f ≡ own_fader h (n + 1) → b ≡ is_of driver f → b ≡ false → first_target h driver n ≡ None →
-        first_target h driver (n + 1) ≡ None
+    -- r is what fader n + 1 has on the driver
+    pub one_more : (n : ℕ) (f : Option Destination) (r : Option ℕ) → f ≡ own_fader h (n + 1) → r ≡ target_if driver f → first_target h driver n ≡ None →
+        r ≡ first_target h driver (n + 1)
     unfolding first_target
-    not_yet n f b a d e p = rw (add-one n, p, ← a, ← d, e)
+    one_more n f r a d p = rw (add-one n, p, ← a) d
 
-    hit : (n top : ℕ) → n < top → first_target h driver n ≡ None → is_of driver (own_fader h (n + 1)) ≡ true →
-        first_target h driver top ≡ Some (target_in (own_fader h (n + 1)))
+    -- one that is found stays the first
+    pub stays : (t m n : ℕ) → first_target h driver n ≡ Some t → n ≤ m → first_target h driver m ≡ Some t
     unfolding first_target
-    hit n zero l p e = absurd (omega arith)
-    hit n (suc m) l p e = go (ltb n m) refl (λ k. hit n m k p e)
+    stays t zero n e l =
+        let q : n ≡ 0 = omega arith in
+        rw q at e
+    stays t (suc m) n e l = go (leb n m) refl (λ k. stays t m n e k)
       where
-        go : (b : Bool) → ltb n m ≡ b → (n < m → first_target h driver m ≡ Some (target_in (own_fader h (n + 1)))) → first_target h driver (suc m) ≡ Some (target_in (own_fader h (n + 1)))
-        go true q ih = rw (ih (ltb-true n m q))
+        go : (b : Bool) → leb n m ≡ b → (n ≤ m → first_target h driver m ≡ Some t) → first_target h driver (suc m) ≡ Some t
+        go true q ih = rw (ih (leb-true n m q))
         go false q ih =
-            let k : m ≤ n = ltb-false n m q in
-            let r : m ≡ n = omega arith in
-            rw (r, p, e)
+            let k : m < n = leb-false n m q in
+            let r : n ≡ suc m = omega arith in
+            rw r at e
 
-    pub is-first : (n top : ℕ) (f : Option Destination) (b : Bool) (t : ℕ) → n < top → first_target h driver n ≡ None → f ≡ own_fader h (n + 1) → b ≡ is_of driver f → b ≡ true →
-        t ≡ target_in f → t ≡ or_absent (first_target h driver top)
-    is-first n top f b t l p a d e g = rw (hit n top l p (rw (← a, ← d) e), ← a) g
+    pub is-first : (r : Option ℕ) (n : ℕ) → n < 16 → is_some r ≡ true → r ≡ first_target h driver (n + 1) → r ≡ first_target h driver 16
+    is-first None n l s e = absurd (false≢true s)
+    is-first (Some t) n l s e = sym (stays t 16 (n + 1) (sym e) (omega arith))
+
+    pub none-yet : (r : Option ℕ) (n : ℕ) → is_some r ≡ false → r ≡ first_target h driver (n + 1) → first_target h driver (n + 1) ≡ None
+    none-yet None n s e = sym e
+    none-yet (Some t) n s e = absurd (true≢false s)
+
+-- what an accepted profile names as a bank's driver is a byte
+pub low_driver : (own n : ℕ) → (n ≤ 15) ⊎ (n ≡ 65535) → Some own ≡ named n → own < 256
+low_driver own n (inl h) e = omega (arith, its_name n own e)
+low_driver own n (inr h) e = absurd (false≢true (ap is_some (sym (named_absent) ∙ (rw h at (sym e)))))

@@ -1,19 +1,19 @@
 -- What the definition sees of what a handler is handed: the profile's bytes and the current bank with its live faders are a rig. Definitions only.
-use Rattle.std.specs.Prelude.{ℕ, Bool, true, false, List, None, Option, Some}
+use Rattle.std.specs.Prelude.{ℕ, None, Option}
 use Rattle.lookup.specs.Lookup.{positions_of, button_of}
 use Rattle.lookup.specs.View.{part_of}
 use Rattle.session.specs.Session.{seen_strips, strips_or}
-use Rattle.definition.specs.Rig.{Here, Rig}
-use Rattle.rig.specs.declared.Current.{Current}
+use Rattle.lookup.specs.declared.Destination.{Destination}
+use Rattle.definition.specs.Rig.{Here, Rig, or_target, is_of, target_in}
+use Rattle.rig.specs.declared.current.Current.{Current}
 
--- the current bank over the profile p
-abbrev pub here_in : List ℕ → Current → Here
-here_in p c = record { bank = c.bank; part = part_of p c.bank; strips = strips_or (seen_strips c.strips) }
+-- the current bank over its profile
+abbrev pub here_in : Current → Here
+here_in c = record { bank = c.bank; part = part_of c.profile.now c.bank; strips = strips_or (seen_strips c.strips.now) }
 
-abbrev pub rig_in : List ℕ → Current → Rig
-rig_in p c = record { positions = positions_of p; globals = part_of p 255; here = here_in p c; button = button_of p }
+abbrev pub rig_in : Current → Rig
+rig_in c = record { positions = positions_of c.profile.now; globals = part_of c.profile.now 255; here = here_in c; button = button_of c.profile.now }
 
--- a mute that was read, if it could be
-abbrev pub mute_if : Bool → Bool → Option Bool
-mute_if true b = Some b
-mute_if false b = None
+-- the target of what a fader is wired to, if that is on the driver
+abbrev pub target_if : ℕ → Option Destination → Option ℕ
+target_if driver f = or_target None (is_of driver f) (target_in f)

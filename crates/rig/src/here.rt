@@ -1,96 +1,92 @@
 // The faders of the current bank and of the globals, and the bank's driver.
-ghost use Rattle.std.specs.Prelude.{◌≡◌, ◌≤◌};
-ghost use Rattle.profile.specs.Profile.{verdict};
-ghost use Rattle.lookup.specs.Lookup.{MayBeDriver};
-ghost use Rattle.definition.specs.Rig.{own_fader, destination as destination_of, bank_driver, device as device_of, is_of, target_in, first_target};
-ghost use Rattle.definition.specs.Buttons.{or_absent};
-ghost use Rattle.rig.specs.Seen.{here_in, rig_in};
+ghost use Rattle.std.specs.Prelude.{◌≡◌};
+ghost use Rattle.lookup.specs.Lookup.{named};
+ghost use Rattle.definition.specs.Rig.{own_fader, destination as destination_of, bank_driver, device as device_of, first_target};
+ghost use Rattle.rig.specs.Seen.{here_in, rig_in, target_if};
 
-use crate::Current;
+use crate::{Accepted, Current};
 use lookup::{Destination, Drivers};
 
-// What the current bank itself wires the fader to: a live bank's are the ones its driver handed over last.
-pub fn own_fader(profile: &[u8], here: Current, number: u8) -> Option<Destination>
-    requires { here.strips.count ≤ 8 }
-    ensures { result ≡ own_fader (here_in profile.now here) number }
-{
-    if lookup::live_of(profile, here.bank) == 65535 {
-        return lookup::fader(profile, here.bank, number);
-    }
-    let strips = here.strips;
-    session::strip_found(strips, number)
-}
-
-// A global fader wins over the bank's: it is the one that is always there, whichever bank is selected.
-pub fn destination(profile: &[u8], here: Current, number: u8) -> Option<Destination>
-    requires { here.strips.count ≤ 8 }
-    ensures { result ≡ destination_of (rig_in profile.now here) number }
-{
-    match lookup::fader(profile, 255, number) {
-        Some(d) => Some(d),
-        None => own_fader(profile, here, number),
-    }
-}
-
-// ── the bank's driver ──
-
-// The driver a bank's own buttons belong to: the one most of its faders use. 65535 where it has none.
-pub fn bank_driver(profile: &[u8], here: Current) -> u16
-    requires { here.strips.count ≤ 8 }
-    ensures value { result ≡ bank_driver (here_in profile.now here) }
-    ensures may_be_driver { MayBeDriver result }
-{
-    let mut drivers = Drivers::none();
-    for n in 0..16 {
-        if let Some(d) = own_fader(profile, here, n + 1) {
-            drivers.push(d.driver);
-        }
-    }
-    lookup::most_common(drivers.as_slice())
-}
-
-// The driver of this bank's device: its own, else the one most of its faders use.
-pub fn device(profile: &[u8], here: Current) -> u16
-    requires profile_value { verdict profile.now ≡ 0 }
-    requires count_bound { here.strips.count ≤ 8 }
-    ensures value { result ≡ device_of (here_in profile.now here) }
-    ensures may_be_driver { MayBeDriver result }
-{
-    let own = lookup::device_of(profile, here.bank);
-    if own == 65535 {
-        return bank_driver(profile, here);
-    }
-    own
-}
-
-fn is_of(to: Option<Destination>, driver: u8) -> bool
-    ensures { result ≡ is_of driver to }
+// The target of what a fader is wired to, if that is on the driver.
+fn target_on(to: &Option<Destination>, driver: u8) -> Option<u16>
+    ensures { result ≡ target_if driver to.now }
 {
     match to {
-        Some(d) => d.driver == driver,
-        None => false,
+        Some(d) if d.driver == driver => Some(d.target),
+        _ => None,
     }
 }
 
-fn target_of(to: Option<Destination>) -> u16
-    ensures { result ≡ target_in to }
-{
-    match to {
-        Some(d) => d.target,
-        None => 65535,
-    }
-}
-
-// The target of the bank's first fader on the driver.
-pub fn first_target(profile: &[u8], here: Current, driver: u8) -> u16
-    requires { here.strips.count ≤ 8 }
-    ensures { result ≡ or_absent (first_target (here_in profile.now here) driver 16) }
-{
-    for n in 0..16 {
-        let to = own_fader(profile, here, n + 1);
-        if is_of(to, driver) {
-            return target_of(to);
+impl Current<'_> {
+    // What the current bank itself wires the fader to: a live bank's are the ones its driver handed over last.
+    #[tactic(auto, unfolding(definition::specs::Rig::own_fader), using(lookup::specs::NamedLaws::by_none, lookup::specs::NamedLaws::by_some))]
+    pub fn own_fader(&self, number: u8) -> Option<Destination>
+        ensures { result ≡ own_fader (here_in self.now) number }
+    {
+        match lookup::live_of(self.profile, self.bank) {
+            None => lookup::fader(self.profile, self.bank, number),
+            Some(_) => self.strips.destination(number),
         }
     }
-    lookup::ABSENT
+
+    // A global fader wins over the bank's: it is the one that is always there, whichever bank is selected.
+    // A `match` and no `or_else`: the proof over its closure did not close.
+    #[tactic(auto, unfolding(definition::specs::Rig::destination))]
+    pub fn destination(&self, number: u8) -> Option<Destination>
+        ensures { result ≡ destination_of (rig_in self.now) number }
+    {
+        match lookup::fader(self.profile, lookup::GLOBALS, number) {
+            Some(d) => Some(d),
+            None => self.own_fader(number),
+        }
+    }
+
+    // ── the bank's driver ──
+
+    // The driver a bank's own buttons belong to: the one most of its faders use.
+    pub fn bank_driver(&self) -> Option<u8>
+        ensures { result ≡ named (bank_driver (here_in self.now)) }
+    {
+        let mut drivers = Drivers::none();
+        for n in 0..16 {
+            if let Some(d) = self.own_fader(n + 1) {
+                drivers.push(d.driver);
+            }
+        }
+        lookup::most_common(drivers.as_slice())
+    }
+
+    // The target of the bank's first fader on the driver. A loop and no `find_map`: the proof over its closure did not close.
+    pub fn first_target(&self, driver: u8) -> Option<u16>
+        ensures { result ≡ first_target (here_in self.now) driver 16 }
+    {
+        for n in 0..16 {
+            let target = target_on(&self.own_fader(n + 1), driver);
+            if target.is_some() {
+                return target;
+            }
+        }
+        None
+    }
+}
+
+impl Accepted<'_> {
+    // The bank's own driver: an accepted profile names it by a byte.
+    pub fn own_driver(&self) -> Option<u8>
+        ensures { result ≡ named (here_in self.now.here).part.device }
+    {
+        let own = lookup::device_of(self.here.profile, self.here.bank)?;
+        Some(own as u8)
+    }
+
+    // The driver of this bank's device: its own, else the one most of its faders use.
+    #[tactic(auto, unfolding(definition::specs::Rig::device), using(lookup::specs::NamedLaws::by_none, lookup::specs::NamedLaws::by_some))]
+    pub fn device(&self) -> Option<u8>
+        ensures { result ≡ named (device_of (here_in self.now.here)) }
+    {
+        match self.own_driver() {
+            None => self.here.bank_driver(),
+            own => own,
+        }
+    }
 }

@@ -1,21 +1,20 @@
 -- The scenes that the current device offers, as the definition sees them. Definitions only.
-use Rattle.std.specs.Prelude.{ℕ, ◌≤◌, ◌≡◌, Bool, true, List, leb, length, None, Option, Some}
-use Rattle.base.specs.Choice.{pick}
+use Rattle.std.specs.Prelude.{ℕ, ◌≤◌, ◌≡◌, List, length}
 use Rattle.lookup.specs.Lookup.{scenes_of}
-use Rattle.drivers.specs.Shown.{seen_names}
 use Rattle.scenes.specs.declared.names.Offer.{Offer}
+use Rattle.scenes.specs.declared.names.Offer.TheVariants.{Own, Reported}
 
 -- the bank's own list in the profile p, or the names that the device reported
 abbrev pub seen_offer : List ℕ → ℕ → Offer → List ℕ
-seen_offer p bank o = pick o.own (scenes_of p bank) (seen_names o.names)
+seen_offer p bank (Own n) = scenes_of p bank
+seen_offer p bank (Reported names) = names
 
--- the count is that of the list, and what the device reported is within its array
+-- how many there are, as the offer has it
+abbrev pub count_in : Offer → ℕ
+count_in (Own n) = n
+count_in (Reported names) = length names
+
+-- the count is that of the list, which is short
 pub record Offers (p : List ℕ) (bank : ℕ) (o : Offer) : Type 0 where
-  pub count : o.count ≡ length (seen_offer p bank o)
-  pub few : o.count ≤ 128
-  pub names : o.names.count ≤ 128
-
--- a place that a position of 32 bits can hold
-abbrev pub is_low : Option ℕ → Bool
-is_low (Some i) = leb i 4294967295
-is_low None = true
+  pub count : count_in o ≡ length (seen_offer p bank o)
+  pub few : length (seen_offer p bank o) ≤ 128

@@ -1,242 +1,111 @@
 // Which scenes the current device offers, and where it is among them.
-ghost use Rattle.std.specs.Prelude.{◌≡◌, true, false, [], ◌≤◌, ◌<◌, get_or};
-ghost use Rattle.profile.specs.Profile.{verdict};
-ghost use Rattle.lookup.specs.Lookup.{position};
+ghost use Rattle.std.specs.Prelude.{◌≡◌, ◌<◌, get_or, IfSome};
+ghost use Rattle.lookup.specs.Lookup.{or_absent, position};
 ghost use Rattle.drivers.specs.Talk.{got};
-ghost use Rattle.drivers.specs.Shown.{shown, seen_names};
-ghost use Rattle.definition.specs.Scenes.{scene_names, place_of, scene_on_device, placed, started, start as start_of};
+ghost use Rattle.drivers.specs.Shown.{shown};
+ghost use Rattle.definition.specs.Scenes.{scene_names, scene_on_device, started, start as start_of};
 ghost use Rattle.rig.specs.Seen.{here_in};
-ghost use Rattle.scenes.specs.Offer.{seen_offer, Offers, is_low};
+ghost use Rattle.scenes.specs.Offer.{seen_offer, count_in, Offers};
 
 use drivers::{Io, Names};
-use rig::Current;
+use rig::{Accepted, Current};
 use session::Lamps;
 
-// The scenes of the current device: the profile's own list of the bank, count of them, or the names that the device reports.
-#[derive(Clone, Copy)]
-pub struct Offer {
-    pub own: bool,
-    pub count: usize,
-    pub names: Names,
+// The scenes of the current device: so many of the profile's own list of the bank, or the names that the device reports.
+#[derive(Drop)]
+pub enum Offer {
+    Own(usize),
+    Reported(Names),
 }
 
-#[derive(Clone, Copy)]
-pub struct Offered {
-    pub io: Io,
-    pub offer: Offer,
-}
+impl Offer {
+    pub fn count(&self) -> usize
+        ensures { result ≡ count_in self.now }
+    {
+        match self {
+            Offer::Own(count) => *count,
+            Offer::Reported(names) => names.as_slice().len(),
+        }
+    }
 
-fn no_names() -> Names
-    ensures { (seen_names result ≡ []) × (result.count ≡ 0) }
-{
-    Names {
-        list: [0; 128],
-        count: 0,
+    // The name of the i-th scene that is offered.
+    pub fn name_at(&self, here: &Current<'_>, i: usize) -> Option<u16>
+        ensures { or_absent result ≡ get_or (seen_offer here.now.profile.now here.now.bank self.now) i 65535 }
+    {
+        match self {
+            Offer::Own(_) => lookup::scene_name(here.profile, here.bank, i),
+            Offer::Reported(names) => names.as_slice().get(i).copied(),
+        }
     }
-}
 
-fn own_list(count: usize) -> Offer
-    ensures own_value { (result.own ≡ true) × (result.count ≡ count) }
-    ensures count_bound { result.names.count ≤ 128 }
-{
-    let names = no_names();
-    Offer {
-        own: true,
-        count: count,
-        names: names,
+    // The first place of a name among them.
+    fn position_of(&self, here: &Current<'_>, name: u16) -> Option<usize>
+        ensures { result ≡ position name (seen_offer here.now.profile.now here.now.bank self.now) }
+    {
+        match self {
+            Offer::Own(_) => lookup::scene_position(here.profile, here.bank, name),
+            Offer::Reported(names) => place_in(names, name),
+        }
     }
-}
-
-fn reported(names: Names) -> Offer
-    ensures { (result.own ≡ false) × (result.count ≡ names.count) × (result.names ≡ names) }
-{
-    Offer {
-        own: false,
-        count: names.count,
-        names: names,
-    }
-}
-
-// Which scenes this device offers, in order: the profile's list when it has one, otherwise whatever the device itself reports.
-pub fn scene_names(
-    answers: &[u8],
-    calls: &mut [u8; 5392],
-    messages: &mut [u8; 306],
-    io: Io,
-    profile: &[u8],
-    here: Current,
-) -> Offered
-    requires profile_value { verdict profile.now ≡ 0 }
-    requires count_bound { here.strips.count ≤ 8 }
-    ensures messages_after { got (seen_offer profile.now here.bank result.offer) (shown answers.now result.io calls.new messages.new) ≡ scene_names (here_in profile.now here) (shown answers.now io calls.old messages.old) }
-    ensures offers { Offers profile.now here.bank result.offer }
-{
-    let own = lookup::scene_count(profile, here.bank);
-    if own != 0 {
-        let o = own_list(own);
-        return Offered { io: io, offer: o };
-    }
-    let name = rig::here::device(profile, here);
-    if name == 65535 {
-        let o = reported(no_names());
-        return Offered { io: io, offer: o };
-    }
-    let g = drivers::scenes(answers, calls, messages, io, name as u8);
-    let u = g.io;
-    let names = g.names;
-    let o = reported(names);
-    Offered { io: u, offer: o }
-}
-
-// The name of the i-th scene that is offered.
-pub fn name_at(profile: &[u8], bank: u8, offer: Offer, i: usize) -> u16
-    requires offers { Offers profile.now bank offer }
-    requires i_lt_count { i < offer.count }
-    ensures { result ≡ get_or (seen_offer profile.now bank offer) i 65535 }
-{
-    if offer.own {
-        return lookup::scene_name(profile, bank, i);
-    }
-    let names = offer.names;
-    names.list[i]
 }
 
 // The first place of a name in a device's list.
-pub fn place_in(names: Names, name: u16) -> Option<usize>
-    requires { names.count ≤ 128 }
-    ensures { result ≡ position name (seen_names names) }
+pub fn place_in(names: &Names, name: u16) -> Option<usize>
+    ensures { result ≡ position name names.now }
 {
-    let n = names.count;
-    let mut i: usize = 0;
-    while i < n {
-        if names.list[i] == name {
-            return Some(i);
-        }
-        i += 1;
-    }
-    None
+    names.as_slice().iter().position(|n| *n == name)
 }
 
-fn position_of(profile: &[u8], bank: u8, offer: Offer, name: u16) -> Option<usize>
-    requires { Offers profile.now bank offer }
-    ensures { result ≡ position name (seen_offer profile.now bank offer) }
+// Which scenes this device offers, in order: the profile's list when it has one, otherwise whatever the device itself reports.
+#[tactic(auto, unfolding(definition::specs::Scenes::scene_names, drivers::specs::Talk::next), using(lookup::specs::NamedLaws::is_absent, lookup::specs::NamedLaws::is_there, crate::proofs::Laws::own_few, lookup::specs::NamedLaws::its_name))]
+pub fn scene_names(io: &mut Io<'_>, here: &Accepted<'_>) -> Offer
+    ensures value { got (seen_offer here.now.here.profile.now here.now.here.bank result) (shown io.new) ≡ scene_names (here_in here.now.here) (shown io.old) }
+    ensures offers { Offers here.now.here.profile.now here.now.here.bank result }
 {
-    if offer.own {
-        return lookup::scene_position(profile, bank, name);
+    let own = lookup::scene_count(here.here.profile, here.here.bank);
+    if own != 0 {
+        return Offer::Own(own);
     }
-    let names = offer.names;
-    place_in(names, name)
+    let Some(driver) = here.device() else {
+        return Offer::Reported(Names::none());
+    };
+    Offer::Reported(io.scenes(driver).unwrap_or_else(Names::none))
 }
 
 // ── where the device is ──
 
-#[derive(Clone, Copy)]
-struct OnDevice {
-    io: Io,
-    place: Option<usize>,
-}
-
-// Where the i-th scene of the device's own list stands among those that are offered.
-fn place_of(profile: &[u8], bank: u8, offer: Offer, all: Names, i: usize) -> Option<usize>
-    requires offers { Offers profile.now bank offer }
-    requires count_bound { all.count ≤ 128 }
-    ensures { result ≡ place_of (seen_offer profile.now bank offer) i (seen_names all) }
-{
-    if all.count <= i {
-        return None;
-    }
-    let name = all.list[i];
-    position_of(profile, bank, offer, name)
-}
-
 // Where the device itself is, as a position among the scenes offered, or nothing when it cannot say.
-fn scene_on_device(
-    answers: &[u8],
-    calls: &mut [u8; 5392],
-    messages: &mut [u8; 306],
-    io: Io,
-    profile: &[u8],
-    here: Current,
-    offer: Offer,
-) -> OnDevice
-    requires profile_value { verdict profile.now ≡ 0 }
-    requires count_bound { here.strips.count ≤ 8 }
-    requires offers { Offers profile.now here.bank offer }
-    ensures messages_after { got result.place (shown answers.now result.io calls.new messages.new) ≡ scene_on_device (here_in profile.now here) (seen_offer profile.now here.bank offer) (shown answers.now io calls.old messages.old) }
-    ensures place_value { is_low result.place ≡ true }
+#[tactic(auto, unfolding(definition::specs::Scenes::scene_on_device, drivers::specs::Talk::next), using(lookup::specs::NamedLaws::is_absent, lookup::specs::NamedLaws::is_there, crate::proofs::Laws::position_low, lookup::specs::NamedLaws::its_name))]
+fn scene_on_device(io: &mut Io<'_>, here: &Accepted<'_>, offer: &Offer) -> Option<usize>
+    requires offers { Offers here.now.here.profile.now here.now.here.bank offer.now }
+    ensures value { got result (shown io.new) ≡ scene_on_device (here_in here.now.here) (seen_offer here.now.here.profile.now here.now.here.bank offer.now) (shown io.old) }
+    ensures low { IfSome result (λ i. i < 4294967296) }
 {
-    let name = rig::here::device(profile, here);
-    if name == 65535 {
-        return OnDevice {
-            io: io,
-            place: None,
-        };
-    }
-    let g = drivers::current_scene(answers, calls, messages, io, name as u8);
-    let u = g.io;
-    let at = g.index;
-    let Some(i) = at else {
-        return OnDevice { io: u, place: None };
-    };
-    let all = drivers::scenes(answers, calls, messages, u, name as u8);
-    let v = all.io;
-    let names = all.names;
-    let p = place_of(profile, here.bank, offer, names, i as usize);
-    OnDevice { io: v, place: p }
+    let driver = here.device()?;
+    let i = io.current_scene(driver)?;
+    let names = io.scenes(driver)?;
+    let name = names.as_slice().get(i as usize)?;
+    offer.position_of(&here.here, *name)
 }
 
 // ── the position that is kept ──
 
-fn with_scene(lamps: Lamps, bank: u8, place: Option<usize>) -> Lamps
-    requires bank_bound { bank < 16 }
-    requires place_value { is_low place ≡ true }
-    ensures { result ≡ placed bank place lamps }
+// Where no position is kept, the device's own is: a scene picked on the device is the starting point of the next arrow. Whether the positions
+// were saved.
+#[tactic(auto, unfolding(definition::specs::Scenes::start, drivers::specs::Talk::next, session::specs::Session::scene_to, session::specs::Session::scene_unknown))]
+pub fn start(io: &mut Io<'_>, here: &Accepted<'_>, lamps: &mut Lamps, offer: &Offer) -> bool
+    requires bank_bound { here.now.here.bank < 16 }
+    requires offers { Offers here.now.here.profile.now here.now.here.bank offer.now }
+    ensures value { got (started lamps.new result) (shown io.new) ≡ start_of (here_in here.now.here) (seen_offer here.now.here.profile.now here.now.here.bank offer.now) lamps.old (shown io.old) }
+    ensures flash { lamps.new.flash ≡ lamps.old.flash }
 {
-    match place {
-        Some(i) => session::scene_to(lamps, bank, i as u32),
-        None => session::scene_unknown(lamps, bank),
+    let bank = here.here.bank;
+    if lamps.scene_at(bank).is_some() {
+        return false;
     }
-}
-
-#[derive(Clone, Copy)]
-pub struct Started {
-    pub io: Io,
-    pub lamps: Lamps,
-    pub saved: bool,
-}
-
-// Where no position is kept, the device's own is: a scene picked on the device is the starting point of the next arrow.
-pub fn start(
-    answers: &[u8],
-    calls: &mut [u8; 5392],
-    messages: &mut [u8; 306],
-    io: Io,
-    profile: &[u8],
-    here: Current,
-    lamps: Lamps,
-    offer: Offer,
-) -> Started
-    requires profile_value { verdict profile.now ≡ 0 }
-    requires count_bound { here.strips.count ≤ 8 }
-    requires bank_bound { here.bank < 16 }
-    requires offers { Offers profile.now here.bank offer }
-    ensures messages_after { got (started result.lamps result.saved) (shown answers.now result.io calls.new messages.new) ≡ start_of (here_in profile.now here) (seen_offer profile.now here.bank offer) lamps (shown answers.now io calls.old messages.old) }
-    ensures flash_value { result.lamps.flash ≡ lamps.flash }
-{
-    let None = session::scene_at(lamps, here.bank) else {
-        return Started {
-            io: io,
-            lamps: lamps,
-            saved: false,
-        };
-    };
-    let g = scene_on_device(answers, calls, messages, io, profile, here, offer);
-    let u = g.io;
-    let place = g.place;
-    let l = with_scene(lamps, here.bank, place);
-    Started {
-        io: u,
-        lamps: l,
-        saved: true,
+    match scene_on_device(io, here, offer) {
+        Some(i) => lamps.scene_to(bank, i as u32),
+        None => lamps.scene_unknown(bank),
     }
+    true
 }

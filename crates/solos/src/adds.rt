@@ -1,143 +1,62 @@
-// Number 11: the targets that a press would silence beside those that are, each once.
-ghost use Rattle.std.specs.Prelude.{◌≡◌, true, [], ◌+◌, ◌≤◌, ◌<◌, length, take, None, Some};
-ghost use Rattle.base.specs.Choice.{pick};
-ghost use Rattle.base.specs.Keyed.{any_of, change};
-ghost use Rattle.definition.specs.Muting.{is_same, adding as adding_of, solo_adds, added_by_solo, added_by_mute};
+// Number 11: how many targets a press would silence beside those that are, each once.
+ghost use Rattle.std.specs.Prelude.{◌≡◌, ◌+◌, ◌≤◌, ◌<◌, length};
+ghost use Rattle.definition.specs.Muting.{adding, solo_adds, added_by_solo, added_by_mute};
 ghost use Rattle.rig.specs.Seen.{rig_in};
-ghost use Rattle.solos.specs.Peers.{found_of, seen_peers, seen_added};
+ghost use Rattle.solos.specs.Peers.{seen_peers};
 
-use crate::peers;
-use crate::peers::{Peer, Peers};
+use crate::added::Added;
+use crate::peers::{Peers, peers_of};
 use lookup::Destination;
-use rig::Current;
+use rig::{Current, levels};
 use session::Lamps;
 
-#[derive(Clone, Copy)]
-pub struct Added {
-    pub list: [u16; 16],
-    pub count: usize,
-}
-
-fn none_added() -> Added
-    ensures result_value { seen_added result ≡ [] }
-    ensures count_value { result.count ≡ 0 }
-{
-    Added {
-        list: [0; 16],
-        count: 0,
-    }
-}
-
-fn is_added(added: Added, target: u16) -> bool
-    requires { added.count ≤ 16 }
-    ensures { result ≡ any_of (is_same target) (seen_added added) }
-{
-    let n = added.count;
-    let mut i: usize = 0;
-    while i < n {
-        if added.list[i] == target {
-            return true;
-        }
-        i += 1;
-    }
-    false
-}
-
-fn with_target(added: Added, target: u16) -> Added
-    requires { added.count < 16 }
-    ensures result_value { seen_added result ≡ change (is_same target) (λ x. x) target (seen_added added) }
-    ensures count_bound { result.count ≤ added.count + 1 }
-{
-    if is_added(added, target) {
-        return added;
-    }
-    let n = added.count;
-    let mut t = added;
-    t.list[n] = target;
-    t.count = n + 1;
-    t
-}
-
 // A destination without a mute adds its target, unless that is silenced or added already.
-fn adding(added: Added, targets: &[u16; 256], hushed: usize, dest: Destination) -> Added
-    requires count_bound { added.count < 16 }
-    requires hushed_bound { hushed ≤ 256 }
-    ensures result_value { seen_added result ≡ adding_of (Some dest) (take hushed targets.now) (seen_added added) }
-    ensures count_bound_2 { result.count ≤ added.count + 1 }
+fn adding(added: &mut Added, to: Option<Destination>, hushed: &[u16])
+    requires { length added.old < 16 }
+    ensures value { added.new ≡ adding to hushed.now added.old }
+    ensures one_more { length added.new ≤ length added.old + 1 }
 {
-    let target = rig::levels::kept_by(dest);
-    if rig::levels::has_mute(dest) | session::is_hushed(targets, hushed, target) {
-        return added;
+    let Some(dest) = to else {
+        return;
+    };
+    let target = levels::kept_by(dest);
+    if !levels::has_mute(dest) && !session::is_hushed(hushed, target) {
+        added.add(target);
     }
-    with_target(added, target)
-}
-
-// A peer adds its target, unless it is the soloed fader itself.
-fn adding_peer(added: Added, targets: &[u16; 256], hushed: usize, peer: Peer, itself: bool) -> Added
-    requires count_bound { added.count < 16 }
-    requires hushed_bound { hushed ≤ 256 }
-    ensures result_value { seen_added result ≡ adding_of (pick itself None (found_of peer)) (take hushed targets.now) (seen_added added) }
-    ensures count_bound_2 { result.count ≤ added.count + 1 }
-{
-    if itself | !peer.there {
-        return added;
-    }
-    let d = peer.dest;
-    adding(added, targets, hushed, d)
 }
 
 // How many a mute of the fader adds.
-pub fn added_by_mute(
-    profile: &[u8],
-    here: Current,
-    targets: &[u16; 256],
-    hushed: usize,
-    fader: u8,
-) -> usize
-    requires count_bound { here.strips.count ≤ 8 }
-    requires hushed_bound { hushed ≤ 256 }
-    ensures { result ≡ length (added_by_mute (rig_in profile.now here) fader (take hushed targets.now)) }
+#[tactic(auto, unfolding(definition::specs::Muting::added_by_mute))]
+pub fn added_by_mute(here: &Current<'_>, hushed: &[u16], fader: u8) -> usize
+    ensures { result ≡ length (added_by_mute (rig_in here.now) fader hushed.now) }
 {
-    let Some(d) = rig::here::destination(profile, here, fader) else {
-        return 0;
-    };
-    let t = adding(none_added(), targets, hushed, d);
-    t.count
+    let mut added = Added::none();
+    adding(&mut added, here.destination(fader), hushed);
+    added.len()
 }
 
-fn added_by_peers(peers: Peers, targets: &[u16; 256], hushed: usize, fader: u8) -> usize
-    requires { hushed ≤ 256 }
-    ensures { result ≡ length (solo_adds (seen_peers peers) fader (take hushed targets.now) 16) }
+// The soloed fader itself adds nothing.
+#[tactic(auto, using(crate::proofs::AddsLaws::none_adds, crate::proofs::AddsLaws::more_adds))]
+fn added_by_peers(peers: &Peers, hushed: &[u16], fader: u8) -> usize
+    ensures { result ≡ length (solo_adds (seen_peers peers.now) fader hushed.now 16) }
 {
-    let mut t = none_added();
-    let mut n: u8 = 0;
-    while n < 16 {
-        let p = peers.list[n as usize];
-        n += 1;
-        t = adding_peer(t, targets, hushed, p, n == fader);
+    let mut added = Added::none();
+    for (n, peer) in peers.iter().enumerate() {
+        let itself = n as u8 + 1 == fader;
+        adding(&mut added, if itself { None } else { *peer }, hushed);
     }
-    t.count
+    added.len()
 }
 
 // How many a solo of the fader adds that turns on: a solo that turns off silences none.
-pub fn added_by_solo(
-    profile: &[u8],
-    here: Current,
-    lamps: Lamps,
-    targets: &[u16; 256],
-    hushed: usize,
-    fader: u8,
-) -> usize
-    requires count_bound { here.strips.count ≤ 8 }
-    requires hushed_bound { hushed ≤ 256 }
-    ensures { result ≡ length (added_by_solo (rig_in profile.now here) fader lamps (take hushed targets.now)) }
+#[tactic(auto, unfolding(definition::specs::Muting::added_by_solo), using(crate::proofs::AddsLaws::same_adds))]
+pub fn added_by_solo(here: &Current<'_>, lamps: &Lamps, hushed: &[u16], fader: u8) -> usize
+    ensures { result ≡ length (added_by_solo (rig_in here.now) fader lamps.now hushed.now) }
 {
-    let Some(chosen) = rig::here::destination(profile, here, fader) else {
-        return 0;
-    };
-    if lamps.soloed == fader {
-        return 0;
+    match here.destination(fader) {
+        Some(chosen) if lamps.soloed != fader => {
+            added_by_peers(&peers_of(here, chosen.group), hushed, fader)
+        }
+        _ => 0,
     }
-    let peers = peers::peers_of(profile, here, chosen);
-    added_by_peers(peers, targets, hushed, fader)
 }

@@ -1,1 +1,2 @@
-pub mod Home
+pub mod Note
+pub mod Panel

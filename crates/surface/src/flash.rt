@@ -1,180 +1,99 @@
-// A number shown as a grid: the row by a position, the column by a button's lamp, played out over ticks. `home` is where the fader of the row was last seen.
-ghost use Rattle.std.specs.Prelude.{◌≡◌, true, ◌+◌, ◌≤◌, take};
+// A number shown as a grid: the row by a position, the column by a button's lamp, played out over ticks.
+ghost use Rattle.std.specs.Prelude.{◌≡◌, ◌+◌, ◌≤◌};
 ghost use Rattle.drivers.specs.Talk.{got};
 ghost use Rattle.drivers.specs.Shown.{shown};
-ghost use Rattle.definition.specs.Flash.{phase_led, phases_to, sent_up_to};
+ghost use Rattle.definition.specs.Flash.{phase_led, phases_to, finish_flash, flash_number, tick_flash, sent_up_to};
 ghost use Rattle.rig.specs.Seen.{rig_in};
-ghost use Rattle.surface.specs.Home.{has_note, Finishes, Shows, Plays};
+ghost use Rattle.surface.specs.Panel.{LampsAlone};
 
+use crate::Panel;
 use crate::lamps::{push_state, send_level};
 use drivers::Io;
 use rig::Current;
-use session::{Flash, Lamps};
+use session::Flash;
 
-#[derive(Clone, Copy)]
-pub struct Flashed {
-    pub io: Io,
-    pub lamps: Lamps,
-}
-
-fn send_phase(
-    answers: &[u8],
-    calls: &mut [u8; 5392],
-    messages: &mut [u8; 306],
-    io: Io,
-    flash: Flash,
-    phase: u8,
-) -> Io
+fn send_phase(io: &mut Io<'_>, flash: Flash, phase: u8)
     requires { flash.base + flash.column ≤ 255 }
-    ensures { shown answers.now result calls.new messages.new ≡ phase_led flash phase (shown answers.now io calls.old messages.old) }
+    ensures { shown io.new ≡ phase_led flash phase (shown io.old) }
 {
-    let note = flash.base + flash.column;
-    drivers::send_led(answers, calls, messages, io, note, phase % 2 == 0)
+    io.send_led(flash.base + flash.column, phase % 2 == 0);
 }
 
 // The phases that are not sent yet, up to `due`.
-fn send_phases(
-    answers: &[u8],
-    calls: &mut [u8; 5392],
-    messages: &mut [u8; 306],
-    io: Io,
-    flash: Flash,
-    due: u8,
-) -> Io
+#[tactic(auto, using(crate::proofs::Laws::no_phase, crate::proofs::Laws::one_phase, crate::proofs::Laws::all_phases))]
+fn send_phases(io: &mut Io<'_>, flash: Flash, due: u8)
     requires { flash.base + flash.column ≤ 255 }
-    ensures { shown answers.now result calls.new messages.new ≡ phases_to flash due (shown answers.now io calls.old messages.old) }
+    ensures { shown io.new ≡ phases_to flash due (shown io.old) }
 {
-    let mut w = io;
-    let mut phase = flash.sent;
-    while phase < due {
-        w = send_phase(answers, calls, messages, w, flash, phase);
-        phase += 1;
+    for phase in flash.sent..due {
+        send_phase(io, flash, phase);
     }
-    w
 }
 
 // Sends what is left of the flash, hands the row's channel back the position it was last seen at, and puts the real lamps back.
-pub fn finish_flash(
-    answers: &[u8],
-    calls: &mut [u8; 5392],
-    messages: &mut [u8; 306],
-    io: Io,
-    profile: &[u8],
-    here: Current,
-    lamps: Lamps,
-    targets: &[u16; 256],
-    hushed: usize,
-    home: Option<f64>,
-) -> Io
-    requires count_bound { here.strips.count ≤ 8 }
-    requires hushed_bound { hushed ≤ 256 }
-    requires flash_value { has_note lamps.flash ≡ true }
-    ensures { Finishes (rig_in profile.now here) lamps (take hushed targets.now) home (shown answers.now io calls.old messages.old) (shown answers.now result calls.new messages.new) }
+#[tactic(auto, unfolding(definition::specs::Flash::finish_flash, definition::specs::Flash::send_home))]
+pub fn finish_flash(io: &mut Io<'_>, here: &Current<'_>, panel: &Panel<'_>)
+    ensures { shown io.new ≡ finish_flash (rig_in here.now) panel.now.lamps panel.now.hushed.now panel.now.moves.now (shown io.old) }
 {
-    let flash = lamps.flash;
+    let flash = panel.lamps.flash;
     if !flash.on {
-        return io;
+        return;
     }
-    let a = send_phases(answers, calls, messages, io, flash, 6);
-    let b = send_level(answers, calls, messages, a, flash.row, home);
-    push_state(
-        answers, calls, messages, b, profile, here, lamps, targets, hushed,
-    )
+    send_phases(io, flash, 6);
+    let fader = usize::from(here.bank) * 16 + usize::from(flash.row);
+    send_level(io, flash.row, panel.moves.last(fader));
+    push_state(io, here, &panel.lamps, panel.hushed);
 }
 
 // Shows a number, once the flash that is still playing is finished. Beyond 64 there is nothing to show.
-pub fn flash_number(
-    answers: &[u8],
-    calls: &mut [u8; 5392],
-    messages: &mut [u8; 306],
-    io: Io,
-    profile: &[u8],
-    here: Current,
-    lamps: Lamps,
-    targets: &[u16; 256],
-    hushed: usize,
-    home: Option<f64>,
-    time: f64,
-    n: usize,
-    base: u8,
-) -> Flashed
-    requires count_bound { here.strips.count ≤ 8 }
-    requires hushed_bound { hushed ≤ 256 }
-    requires flash_value { has_note lamps.flash ≡ true }
-    requires base_bound { base ≤ 8 }
-    ensures { Shows (rig_in profile.now here) lamps (take hushed targets.now) home time n base (shown answers.now io calls.old messages.old) (got result.lamps (shown answers.now result.io calls.new messages.new)) }
+#[tactic(auto, unfolding(definition::specs::Flash::flash_number, session::specs::Session::flashing, session::specs::Session::no_flash))]
+pub fn flash_number(io: &mut Io<'_>, here: &Current<'_>, panel: &mut Panel<'_>, n: usize, base: u8)
+    requires { base ≤ 8 }
+    ensures value { got panel.new.lamps (shown io.new) ≡ flash_number (rig_in here.now) panel.old.hushed.now panel.old.moves.now panel.old.time n base panel.old.lamps (shown io.old) }
+    ensures rest { LampsAlone panel.old panel.new }
 {
-    let u = finish_flash(
-        answers, calls, messages, io, profile, here, lamps, targets, hushed, home,
-    );
+    finish_flash(io, here, panel);
     if 64 <= n {
-        let none = session::no_flash();
-        let off = session::flashing(lamps, none);
-        return Flashed { io: u, lamps: off };
+        panel.lamps.flashing(Flash::none());
+        return;
     }
-    let row = (n / 8) as u8;
-    let column = (n % 8) as u8;
     let flash = Flash {
         on: true,
-        start: time,
-        row: row,
-        base: base,
-        column: column,
+        start: panel.time,
+        row: (n / 8) as u8,
+        base,
+        column: (n % 8) as u8,
         sent: 1,
     };
-    let a = drivers::send_position(answers, calls, messages, u, row, 0.0);
-    let b = send_phase(answers, calls, messages, a, flash, 0);
-    let lit = session::flashing(lamps, flash);
-    Flashed { io: b, lamps: lit }
+    io.send_position(flash.row, 0.0);
+    send_phase(io, flash, 0);
+    panel.lamps.flashing(flash);
 }
 
 fn sent_up_to(flash: Flash, due: u8) -> Flash
     ensures { result ≡ sent_up_to due flash }
 {
-    let mut t = flash;
-    if t.sent < due {
-        t.sent = due;
+    Flash {
+        sent: flash.sent.max(due),
+        ..flash
     }
-    t
 }
 
 // Sends whatever phases of the flash are due by now, and ends it when its time is up.
-pub fn tick_flash(
-    answers: &[u8],
-    calls: &mut [u8; 5392],
-    messages: &mut [u8; 306],
-    io: Io,
-    profile: &[u8],
-    here: Current,
-    lamps: Lamps,
-    targets: &[u16; 256],
-    hushed: usize,
-    home: Option<f64>,
-    time: f64,
-) -> Flashed
-    requires count_bound { here.strips.count ≤ 8 }
-    requires hushed_bound { hushed ≤ 256 }
-    requires flash_value { has_note lamps.flash ≡ true }
-    ensures { Plays (rig_in profile.now here) lamps (take hushed targets.now) home time (shown answers.now io calls.old messages.old) (got result.lamps (shown answers.now result.io calls.new messages.new)) }
+#[tactic(auto, unfolding(definition::specs::Flash::tick_flash, session::specs::Session::flashing, session::specs::Session::no_flash), using(crate::proofs::Laws::due_few))]
+pub fn tick_flash(io: &mut Io<'_>, here: &Current<'_>, panel: &mut Panel<'_>)
+    ensures value { got panel.new.lamps (shown io.new) ≡ tick_flash (rig_in here.now) panel.old.hushed.now panel.old.moves.now panel.old.time panel.old.lamps (shown io.old) }
+    ensures rest { LampsAlone panel.old panel.new }
 {
-    let flash = lamps.flash;
+    let flash = panel.lamps.flash;
     if !flash.on {
-        return Flashed {
-            io: io,
-            lamps: lamps,
-        };
+        return;
     }
-    let due = float::due(time, flash.start) as u8;
-    let u = send_phases(answers, calls, messages, io, flash, due);
-    let sent = sent_up_to(flash, due);
-    let l = session::flashing(lamps, sent);
-    if !float::flash_over(time, flash.start) {
-        return Flashed { io: u, lamps: l };
+    let due = float::due(panel.time, flash.start) as u8;
+    send_phases(io, flash, due);
+    panel.lamps.flashing(sent_up_to(flash, due));
+    if float::flash_over(panel.time, flash.start) {
+        finish_flash(io, here, panel);
+        panel.lamps.flashing(Flash::none());
     }
-    let v = finish_flash(
-        answers, calls, messages, u, profile, here, l, targets, hushed, home,
-    );
-    let none = session::no_flash();
-    let off = session::flashing(l, none);
-    Flashed { io: v, lamps: off }
 }

@@ -1,28 +1,18 @@
-use Prim.Native.Nat.{◌≤◌}
-use native.Mathlib.Omega.{arith}
-use Rattle.commands.proofs.Laws.{low_name, no_driver, offers_nothing, offers}
+use Rattle.std.proofs.Common.{rules, ◌≡◌, true, Some}
+use Rattle.lookup.specs.Lookup.{named, or_absent}
+use Rattle.lookup.specs.NamedLaws.{its_name, is_there, or_absent_is}
+use Rattle.drivers.specs.Talk.{next}
+use Rattle.definition.specs.Rig.{bank_driver, first_target}
+use Rattle.definition.specs.Buttons.{default_button}
+use Rattle.rig.specs.Seen.{rig_in}
 use Rattle.commands.proofs.default_button.Goals as goal
 
-pub returns-then-name : goal.returns-then-name
-returns-then-name c = let name = c.bank_driver-name in
-    no_driver _ _ _ name.result name.ensures.value c.if-name.true
-
-pub overflow_cast-driver : goal.overflow_cast-driver
-overflow_cast-driver c = let name = c.bank_driver-name in
-    let low : name.result ≤ 255 = low_name name.result name.ensures.may_be_driver c.if-name.false in
-    omega arith
-
-pub returns-then-t-command : goal.returns-then-t-command
-returns-then-t-command c = let command = c.default_command-command in
-    let opens = c in
-    let test = opens in
-    let name = test.bank_driver-name in
-    offers_nothing _ _ _ name.result name.ensures.value _ _ command.result test.if-name.false opens.open-t.ensures command.ensures c.if-t-command.true
-
 pub returns : goal.returns
-returns c = let command = c.default_command-command in
-    let opens = c in
-    let test = opens in
-    let name = test.bank_driver-name in
-    offers _ _ _ name.result name.ensures.value _ _ command.result test.if-name.false opens.open-t.ensures command.ensures
-    c.first_target-target.result c.if-t-command.false c.first_target-target.ensures
+unfolding default_button next
+returns c =
+    let r = rig_in c.args.here.now in
+    let d : Some c.in_ok-driver.driver ≡ named (bank_driver r.here) = search rules in
+    let e : Some c.in_ok-command.command ≡ named (r.button c.in_ok-driver.driver c.args.kind) = search rules in
+    let f : c.unwrap_or-target.result ≡ or_absent (first_target r.here c.in_ok-driver.driver 16) = search (rules, or_absent_is) in
+    let ok : c.open.result ≡ true = search rules in
+    rw (is_there _ _ d, ← its_name _ _ d, ← c.open.ensures, ok, is_there _ _ e, ← its_name _ _ e, f)

@@ -1,39 +1,32 @@
-use mir.Syntax.{w32}
-use mir.ValLaws.{to_z-of_z}
-use lib.IntN.{pos}
-use mathlib.Core.Path.{◌≡◌}
-use native.Mathlib.Omega.{arith}
-use lib.ListN.{length, get_or}
-use Rattle.session.specs.Session.{is_encoder}
-use Rattle.base.specs.KeyedLaws.{each}
-use Rattle.hands.proofs.Laws.{no_nudge, one-nudge, all-nudges}
-use borrow.Author.Rules.{rules}
+use Rattle.std.proofs.Common.{rules, ◌≡◌, refl, sym, ◌∙◌, take, to_z, of_z}
+use Rattle.std.specs.Int.{w32}
+use Rattle.std.specs.Iterator.Adapters.{zip_first, zip_second}
+use Rattle.std.specs.Slice.Iter.{iter_rest}
+use Rattle.std.proofs.lemmas.Slice.Zip.{Zip-more, either_empty_from_Zip}
+use Rattle.hands.proofs.Laws.{one_nudge, its_encoder, all_nudged}
 use Rattle.hands.proofs.encoders.drain_turns.Goals as goal
 
-pub loop-i-init : goal.loop-i-init
-loop-i-init c = let b = c in (search rules, no_nudge b.args.profile.now b.args.records.now b.args.sums.now _)
+pub loop-k-init : goal.loop-k-init
+loop-k-init c =
+    let t = c.args.turns.now in
+    let ks : iter_rest (zip_first c.into_iter-k-iterator.result) ≡ take t.count t.records = search rules in
+    let ns : iter_rest (zip_second c.into_iter-k-iterator.result) ≡ take t.count t.sums = search rules in
+    (rw ks c.requires.records_value, rw (ks, ns) refl)
 
-pub apply_nudge-w-requires : goal.apply_nudge-w-requires
-apply_nudge-w-requires c =
-    let b = c in
-    let p = c.loop-i in
-    let ks = b.args.records.now in
-    let l : length ks ≡ 136 = c.ks-1.given in
-    each (is_encoder b.args.profile.now) 0 ks b.args.n p.i (omega (arith, b.requires.n_bound)) (omega arith) b.requires.records_value
+pub apply_nudge-requires : goal.apply_nudge-requires
+apply_nudge-requires c =
+    let more = Zip-more c.loop-k.k-iterator c.next.new.self _ _ c.in-Some.is c.next.ensures.steps in
+    (its_encoder _ _ _ (rw more.0 at c.loop-k.invariant.0)).0
 
-pub loop-i-preserved : goal.loop-i-preserved
-loop-i-preserved c =
-    let b = c in
-    let p = c.loop-i in
-    let ks = b.args.records.now in
-    let ns = b.args.sums.now in
-    let l : length ks ≡ 136 = c.ks-1.given in
-    let m : length ns ≡ 136 = c.ns-1.given in
-    let z = to_z-of_z w32 (get_or ns p.i (pos 0)) (record { sfits = c.apply_nudge-arg-in-loop-i-2-1.given }) in
-    (omega arith, one-nudge b.args.profile.now ks ns _ p.i _ _ _ (omega arith) (omega (arith, b.requires.n_bound)) z p.invariant.1 c.apply_nudge-w.ensures)
+pub loop-k-preserved : goal.loop-k-preserved
+loop-k-preserved c =
+    let more = Zip-more c.loop-k.k-iterator c.next.new.self _ _ c.in-Some.is c.next.ensures.steps in
+    let z : to_z w32 (of_z w32 c.in-Some.sum.now) ≡ c.in-Some.sum.now = search rules in (
+      (its_encoder _ _ _ (rw more.0 at c.loop-k.invariant.0)).1,
+      one_nudge _ _ _ _ _ _ _ c.apply_nudge.ensures ∙ rw z (rw (more.0, more.1) at c.loop-k.invariant.1),
+    )
 
 pub returns : goal.returns
 returns c =
-    let b = c in
-    let p = c.loop-i in
-    all-nudges b.args.profile.now b.args.records.now b.args.sums.now _ p.i b.args.n _ (omega arith) (omega arith) p.invariant.1
+    sym (all_nudged _ _ _ _ (either_empty_from_Zip c.loop-k.k-iterator c.next.new.self _ c.in-None.is c.next.ensures.steps))
+    ∙ c.loop-k.invariant.1

@@ -1,12 +1,16 @@
-use mathlib.Core.Path.{◌≡◌}
-use Prim.Native.Nat.{◌-◌, ◌≤◌}
+use Rattle.std.proofs.Common.{◌≡◌, true}
+use Rattle.std.specs.Iterator.Adapters.{zip_first, zip_second}
+use Rattle.std.specs.Slice.Iter.{iter_rest}
+use Rattle.base.specs.Keyed.{all_of, beside}
 use Rattle.drivers.specs.Shown.{shown}
-use Rattle.session.specs.Session.{turns_up_to}
+use Rattle.session.specs.Session.{turn_at, seen_turns, is_encoder}
 use Rattle.definition.specs.Faders.{nudges}
 use Rattle.hands.proofs.encoders.drain_turns.Given as goal
 
-abbrev pub invariant-loop-i : goal.invariant-loop-i
-invariant-loop-i l = (l.i ≤ l.n) × (shown l.answers l.w l.calls l.messages ≡ nudges (turns_up_to l.profile l.i l.records l.sums) (shown l.answers l.initial.w l.initial.calls l.initial.messages))
-
-abbrev pub decreases-loop-i : goal.decreases-loop-i
-decreases-loop-i l = l.n - l.i
+-- those that are left drain what is left
+abbrev pub invariant-loop-k : goal.invariant-loop-k
+invariant-loop-k l =
+    let ks = iter_rest (zip_first l.k-iterator) in
+    let ns = iter_rest (zip_second l.k-iterator) in
+    (all_of (is_encoder l.profile) ks ≡ true)
+    × (nudges (beside (turn_at l.profile) ks ns) (shown l.io) ≡ nudges (seen_turns l.profile l.turns) (shown l.initial.io))

@@ -1,29 +1,12 @@
-use mathlib.Core.Path.{◌≡◌}
-use native.Mathlib.Omega.{arith}
-use lib.ListN.{length}
-use Rattle.base.specs.FirstLaws.{first-none}
-use Rattle.base.specs.KeyedLaws.{long}
-use Rattle.scenes.proofs.Laws.{place-hit, place-more, place-done}
-use borrow.Author.Rules.{rules}
+-- `scenes::names::place_in` meets its contract. Assumes nothing.
+use Rattle.std.proofs.Common.{rules, tests, ◌∙◌}
+use Rattle.std.proofs.lemmas.Iterator.{YieldsList-from_slice}
+use Rattle.std.proofs.lemmas.Iterator.Search.{position_from_yields_List}
+use Rattle.std.specs.Prelude.{eqb}
+use Rattle.scenes.proofs.Laws.{place_among}
 use Rattle.scenes.proofs.names.place_in.Goals as goal
 
-pub loop-i-init : goal.loop-i-init
-loop-i-init c = (search rules, first-none _)
-
-pub returns-then-names-i : goal.returns-then-names-i
-returns-then-names-i c = let at = c in
-    let start = at in
-    let l : length start.args.names.list ≡ 128 = search (long, start.well_formed) in
-    place-hit start.args.names start.requires l _ at.loop-i.i at.loop-i.invariant.1 (omega arith) c.if-names-i.true
-
-pub loop-i-preserved : goal.loop-i-preserved
-loop-i-preserved c = let at = c in
-    let start = at in
-    let l : length start.args.names.list ≡ 128 = search (long, start.well_formed) in
-    (omega arith, place-more start.args.names start.requires l _ at.loop-i.i at.loop-i.invariant.1 (omega arith) c.if-names-i.false)
-
 pub returns : goal.returns
-returns c = let at = c in
-    let start = at in
-    let l : length start.args.names.list ≡ 128 = search (long, start.well_formed) in
-    place-done start.args.names start.requires l _ at.loop-i.i at.loop-i.invariant.1 (omega arith) (omega arith)
+returns c =
+    position_from_yields_List (λ x. eqb x c.args.name) _ _ _ c.position.ensures.ran (YieldsList-from_slice c.args.names.now cc) (λ x b q k. search (rules, tests))
+    ∙ place_among _ _

@@ -1,7 +1,0 @@
-use Rattle.std.proofs.Common.{◌≡◌, None}
-use Rattle.definition.specs.Rig.{first_target}
-use Rattle.rig.specs.Seen.{here_in}
-use Rattle.rig.proofs.here.first_target.Given as goal
-
-abbrev pub invariant-loop-n : goal.invariant-loop-n
-invariant-loop-n l = first_target (here_in l.profile l.here) l.driver l.n ≡ None

@@ -1,0 +1,19 @@
+use Rattle.std.proofs.Common.{◌≡◌, ◌∙◌, ◌<◌, sym, length, length-take-le, take, arith}
+use Rattle.base.specs.StdLaws.{list_any-any_of}
+use Rattle.definition.specs.Muting.{is_same}
+use Rattle.solos.proofs.AddsLaws.{change_same, change_new}
+use Rattle.solos.proofs.added.Added.add.Goals as goal
+
+pub returns-then-not-contains-clause-added : goal.returns-then-not-contains-clause-added
+returns-then-not-contains-clause-added c =
+    let s = c.self.inside in
+    let is = is_same c.args.target in
+    let long : length (take s.count s.list) ≡ s.count = length-take-le s.count s.list (omega (arith, c.self.told, c.self.invariant)) in
+    let room : s.count < length s.list = omega (arith, long, c.self.told, rw (← c.self.view_is) at c.requires) in
+    rw (← c.self.view_is) (change_new is c.args.target s.list s.count room (sym (list_any-any_of is (take s.count s.list)) ∙ sym c.contains.ensures.value ∙ c.if-not-contains.true))
+
+pub returns-else-not-contains-clause-added : goal.returns-else-not-contains-clause-added
+returns-else-not-contains-clause-added c =
+    let s = c.self.inside in
+    let is = is_same c.args.target in
+    rw (← c.self.view_is) (sym (change_same is c.args.target (take s.count s.list) (sym (list_any-any_of is (take s.count s.list)) ∙ sym c.contains.ensures.value ∙ c.if-not-contains.false)))

@@ -1,7 +1,7 @@
--- The session rebuilt after an event, field by field, is the one that the definition keeps, and its lists stay within their places. Assumes nothing.
-use Rattle.std.proofs.Common.{Some}
+-- The session changed in place after an event is the one that the definition keeps, and its lists stay within their places. Assumes nothing.
+use Rattle.std.proofs.Common.{Some, is_some}
 use Prim.Native.Nat.{ℕ, zero, suc, ◌≤◌}
-use mathlib.Core.Path.{◌≡◌, refl, ap}
+use mathlib.Core.Path.{◌≡◌, refl}
 use mathlib.Core.Bool.{Bool, true, false, ◌&&◌, ◌||◌, not}
 use mathlib.Core.List.{List, [], ◌∷◌, map}
 use native.Mathlib.Omega.{arith}
@@ -12,34 +12,24 @@ use Rattle.base.specs.Choice.{pick}
 use Rattle.base.specs.Keyed.{all_of, beside}
 use Rattle.base.specs.KeyedLaws.{map-set, every-none}
 use Rattle.base.specs.Pigeon.{left_of_lem, right_of}
-use Rattle.session.specs.Session.{is_encoder, seen_line, seen_turns, seen_silenced, seen_strips, strips_or, strips_for}
+use Rattle.session.specs.Session.{is_encoder, seen_line, seen_turns, seen_strips, strips_or, strips_for, moved_to, mark_at, place_move}
 use Rattle.session.specs.declared.Session.{Session}
 use Rattle.session.specs.declared.Marks.{Marks}
 use Rattle.session.specs.declared.Moves.{Moves}
 use Rattle.session.specs.declared.Line.{Line}
+use Rattle.session.specs.declared.Lamps.{Lamps}
 use Rattle.session.specs.declared.Live.{Live}
 use Rattle.session.specs.declared.Turns.{Turns}
 use Rattle.session.specs.declared.Strips.{Strips}
 use Rattle.session.specs.declared.Silenced.{Silenced}
-use Rattle.rig.specs.declared.Current.{Current}
 use Rattle.definition.specs.Faders.{Desk, desk, hold_move, take_move, drained}
-use Rattle.definition.specs.Step.{kept, site, seen, due_after, lives_after, unmarked, unmarked_at}
-use Rattle.hands.specs.Verdicts.{left_by}
-use Rattle.hands.specs.declared.Verdict.{Verdict}
+use Rattle.definition.specs.Step.{seen, due_after, lives_after, unmarked, unmarked_at}
 use Rattle.hands.specs.declared.Verdict.TheVariants.{Ignored, Held, Taken}
-use Rattle.after.specs.After.{moves_by, marks_by, line_by, marks_after, few_strips, FewAfter, TurnsAfter, drained_if, left_of, KeepsPlaces, Fades, Lasts}
+use Rattle.after.specs.After.{marks_after, few_strips, FewAfter, TurnsAfter, strips_left, drained_if, left_of, KeepsPlaces, Fades, Lasts}
 use Rattle.after.specs.declared.Left.{Left}
 use Rattle.after.specs.declared.Setting.{Setting}
 
 -- ── a move ──
-
--- marks, moves and line each by the verdict are the desk by it
-desk_by : (v : Verdict) (k ch : ℕ) (value : Float) (d : Desk) →
-    desk (marks_by v k d.marks) (moves_by v k value d.moves) (line_by v ch value d.line) d.turns ≡ left_by v k ch value d
-unfolding hold_move take_move
-desk_by Ignored k ch value d = refl
-desk_by Held k ch value d = refl
-desk_by Taken k ch value d = refl
 
 -- the session with what a move leaves
 module _ (s : Session) (opened : List Bool) (moves : Moves) (marks : Marks) (line : Line) where
@@ -59,18 +49,22 @@ module _ (s : Session) (opened : List Bool) (moves : Moves) (marks : Marks) (lin
         opened = opened;
       }
 
-  pub fades : (v : Verdict) (k ch : ℕ) (value : Float) → moves ≡ moves_by v k value s.moves → marks ≡ marks_by v k s.marks →
-      seen_line line ≡ line_by v ch value (seen_line s.line) → Fades s v k ch value opened moved
-  unfolding seen
-  fades v k ch value a b e p =
-      rw (a, b, e)
-      (ap
-      (λ d. kept (site s.bank s.livedue s.liveat (map seen_strips s.live.banks)) d s.lamps (seen_silenced s.silenced) opened)
-      (desk_by v k ch value (desk s.marks s.moves (seen_line s.line) (seen_turns p s.turns))))
-
   pub fades_within : line.count ≤ 16 → KeepsPlaces s moved
-  fades_within h p q =
-      record { line = h; turns = q.turns; encoders = q.encoders; silenced = q.silenced; live = q.live }
+  fades_within h p q = record { line = h; turns = q.turns; encoders = q.encoders; silenced = q.silenced; live = q.live }
+
+module _ (s : Session) (opened : List Bool) (k ch : ℕ) (value : Float) where
+  pub fades_ignored : Fades s Ignored k ch value opened (moved s opened s.moves s.marks s.line)
+  unfolding seen
+  fades_ignored p = refl
+
+  pub fades_held : (moves : Moves) → moves ≡ moved_to k value s.moves → Fades s Held k ch value opened (moved s opened moves s.marks s.line)
+  unfolding seen hold_move
+  fades_held moves e p = rw e refl
+
+  pub fades_taken : (moves : Moves) (marks : Marks) (line : Line) → moves ≡ moved_to k value s.moves → marks ≡ mark_at k s.marks →
+      seen_line line ≡ place_move ch value (seen_line s.line) → Fades s Taken k ch value opened (moved s opened moves marks line)
+  unfolding seen take_move
+  fades_taken moves marks line e f g p = rw (e, f, g) refl
 
 -- ── a live list that takes a bank's place ──
 
@@ -89,15 +83,14 @@ few_known : (s : Strips) → s.known ≡ true → s.count ≤ 8 → few_strips s
 few_known s e h = rw (e, le-leb s.count 8 h)
 
 -- the bank's list becomes this one, which is known and within its places
-module _ (live r : Live) (here : Current) (known : here.strips.known ≡ true) (few : here.strips.count ≤ 8)
-    (e : r ≡ strips_for here.bank here.strips live) where
-  pub renewed : map seen_strips r.banks ≡ lives_after true here.bank (strips_or (seen_strips here.strips)) (map seen_strips live.banks)
+module _ (live r : Live) (bank : ℕ) (strips : Strips) (known : strips.known ≡ true) (few : strips.count ≤ 8) (e : r ≡ strips_for bank strips live) where
+  pub renewed : map seen_strips r.banks ≡ lives_after true bank (strips_or (seen_strips strips)) (map seen_strips live.banks)
   unfolding strips_for
-  renewed = rw (e, map-set seen_strips live.banks here.bank here.strips, ← seen-known here.strips known)
+  renewed = rw (e, map-set seen_strips live.banks bank strips, ← seen-known strips known)
 
   pub renewed_few : FewAfter live r
   unfolding strips_for
-  renewed_few h = rw e (all_set few_strips live.banks here.bank here.strips (few_known here.strips known few) h)
+  renewed_few h = rw e (all_set few_strips live.banks bank strips (few_known strips known few) h)
 
 -- ── any other event ──
 
@@ -143,8 +136,8 @@ module _ (p : List ℕ) (t r : Turns) where
   sums_encoders false e h = rw e h
 
 -- the session with what any other event leaves
-module _ (s : Session) (at : Setting) (x : Left) (silenced : Silenced) (opened : List Bool) (liveat : Float) (live : Live) (marks : Marks) (line : Line)
-    (turns : Turns) where
+module _ (s : Session) (at : Setting) (x : Left) (lamps : Lamps) (silenced : Silenced) (opened : List Bool) (liveat : Float) (live : Live) (marks : Marks)
+    (line : Line) (turns : Turns) where
   abbrev lasting : Session
   lasting =
       record {
@@ -156,26 +149,25 @@ module _ (s : Session) (at : Setting) (x : Left) (silenced : Silenced) (opened :
         moves = s.moves;
         line = line;
         turns = turns;
-        lamps = x.lamps;
+        lamps = lamps;
         silenced = silenced;
         opened = opened;
       }
 
-  pub lasts : (now : Float) → x.here.bank ≡ s.bank → liveat ≡ pick (at.ticks && at.due) now s.liveat →
-      map seen_strips live.banks ≡ lives_after x.changed x.here.bank (strips_or (seen_strips x.here.strips)) (map seen_strips s.live.banks) →
-      marks ≡ marks_after x.moved x.changed s.bank s.marks → seen_line line ≡ pick at.ticks [] (seen_line s.line) →
-      TurnsAfter at.ticks s.turns turns → Lasts s at x silenced opened now lasting
+  pub lasts : (now : Float) → liveat ≡ pick (at.ticks && at.due) now s.liveat →
+      map seen_strips live.banks ≡ lives_after (is_some x.strips) s.bank (strips_left x.strips) (map seen_strips s.live.banks) →
+      marks ≡ marks_after x.moved (is_some x.strips) s.bank s.marks → seen_line line ≡ pick at.ticks [] (seen_line s.line) →
+      TurnsAfter at.ticks s.turns turns → Lasts s at x lamps silenced opened now lasting
   unfolding seen left_of
-  lasts now same a l m n t p =
+  lasts now a l m n t p =
       rw (
         due-after x.moved (at.ticks && at.due) s.livedue,
         a,
         l,
-        same,
         m,
         n,
         sums-after p s.turns turns at.ticks t,
-        desk-after x.moved x.changed at.ticks s.bank (desk s.marks s.moves (seen_line s.line) (seen_turns p s.turns)),
+        desk-after x.moved (is_some x.strips) at.ticks s.bank (desk s.marks s.moves (seen_line s.line) (seen_turns p s.turns)),
       )
 
   pub lasts_within : silenced.count ≤ 256 → line.count ≤ 16 → FewAfter s.live live → TurnsAfter at.ticks s.turns turns →

@@ -1,41 +1,23 @@
 -- The session's struct after an event, and that its lists stay within their places. Definitions only.
-use Rattle.std.specs.Prelude.{ℕ, ◌≤◌, ◌≡◌, Bool, true, false, ◌&&◌, ◌||◌, not, List, leb, take, Float}
+use Rattle.std.specs.Prelude.{ℕ, ◌≤◌, ◌≡◌, Bool, true, false, ◌&&◌, ◌||◌, not, List, [], leb, take, Float, Option, None, Some}
+use Rattle.std.specs.Option.{is_some}
 use Rattle.base.specs.Choice.{pick}
 use Rattle.base.specs.Keyed.{all_of}
-use Rattle.session.specs.Session.{is_encoder, mark_at, no_marks, unmark_bank, moved_to, place_move, Hushed, seen_strips, strips_or, seen_silenced}
+use Rattle.session.specs.Session.{is_encoder, no_marks, unmark_bank, Hushed, seen_strips, strips_or, seen_silenced}
 use Rattle.session.specs.declared.Session.{Session}
-use Rattle.session.specs.declared.Move.{Move}
-use Rattle.session.specs.declared.Moves.{Moves}
+use Rattle.session.specs.declared.Lamps.{Lamps}
 use Rattle.session.specs.declared.Marks.{Marks}
+use Rattle.session.specs.declared.Strip.{Strip}
 use Rattle.session.specs.declared.Strips.{Strips}
 use Rattle.session.specs.declared.Live.{Live}
 use Rattle.session.specs.declared.Turns.{Turns}
 use Rattle.session.specs.declared.Silenced.{Silenced}
-use Rattle.rig.specs.declared.Current.{Current}
 use Rattle.definition.specs.Faders.{Desk, drained}
 use Rattle.definition.specs.Step.{Kept, kept, Left, left, site, due_after, lives_after, unmarked, unmarked_at, with_desk, seen}
 use Rattle.hands.specs.Verdicts.{left_by}
 use Rattle.hands.specs.declared.Verdict.{Verdict}
-use Rattle.hands.specs.declared.Verdict.TheVariants.{Ignored, Held, Taken}
 use Rattle.after.specs.declared.Left as declared
 use Rattle.after.specs.declared.Setting.{Setting}
-
--- ── a move: a held one is only seen; one that took over is marked too, and waits ──
-
-abbrev pub moves_by : Verdict → ℕ → Float → Moves → Moves
-moves_by Ignored k v m = m
-moves_by Held k v m = moved_to k v m
-moves_by Taken k v m = moved_to k v m
-
-abbrev pub marks_by : Verdict → ℕ → Marks → Marks
-marks_by Ignored k m = m
-marks_by Held k m = m
-marks_by Taken k m = mark_at k m
-
-abbrev pub line_by : Verdict → ℕ → Float → List Move → List Move
-line_by Ignored ch v l = l
-line_by Held ch v l = l
-line_by Taken ch v l = place_move ch v l
 
 -- ── a turn: other sums ──
 
@@ -69,18 +51,24 @@ marks_after false false bank m = m
 abbrev pub Few : Live → Type 0
 Few l = all_of few_strips l.banks ≡ true
 
+-- a list that is left is known, and within its places
+abbrev pub KnownIf : Option Strips → Type 0
+KnownIf None = Unit {0}
+KnownIf (Some s) = (s.known ≡ true) × (s.count ≤ 8)
+
+-- each live list is an old one, or within its places
+abbrev pub FewAfter : Live → Live → Type 0
+FewAfter live r = Few live → Few r
+
 -- a tick leaves no sums; else they stay as they are
 abbrev pub TurnsAfter : Bool → Turns → Turns → Type 0
 TurnsAfter true t r = r.count ≡ 0
 TurnsAfter false t r = r ≡ t
 
--- a list that changed is known, and within its places
-abbrev pub KnownIf : Bool → Current → Type 0
-KnownIf changed here = changed ≡ true → (here.strips.known ≡ true) × (here.strips.count ≤ 8)
-
--- each live list is an old one, or within its places
-abbrev pub FewAfter : Live → Live → Type 0
-FewAfter live r = Few live → Few r
+-- the list that is left
+abbrev pub strips_left : Option Strips → List Strip
+strips_left None = []
+strips_left (Some s) = strips_or (seen_strips s)
 
 -- ── what is left ──
 
@@ -88,13 +76,13 @@ abbrev pub drained_if : Bool → Desk → Desk
 drained_if true d = drained d
 drained_if false d = d
 
--- what the definition sees of it: `ticks` and `due` as they were before the event, s what is silenced after it
-unfoldable pub left_of : Kept → Bool → Bool → Float → declared.Left → List Hushed → Left
-left_of k ticks due now x s =
+-- what the definition sees of it: `ticks` and `due` as they were before the event, l and s the lamps' state and what is silenced after it
+unfoldable pub left_of : Kept → Bool → Bool → Float → declared.Left → Lamps → List Hushed → Left
+left_of k ticks due now x l s =
     left
     (site x.bank (due_after x.moved (pick (ticks && due) false k.site.due)) (pick (ticks && due) now k.site.at)
-    (lives_after x.changed k.site.bank (strips_or (seen_strips x.here.strips)) k.site.lives))
-    (unmarked x.moved (unmarked_at x.changed k.site.bank (drained_if ticks k.desk))) x.lamps s x.saved
+    (lives_after (is_some x.strips) k.site.bank (strips_left x.strips) k.site.lives))
+    (unmarked x.moved (unmarked_at (is_some x.strips) k.site.bank (drained_if ticks k.desk))) l s x.saved
 
 -- ── the whole ──
 
@@ -119,5 +107,5 @@ abbrev pub Fades : Session → Verdict → ℕ → ℕ → Float → List Bool �
 Fades s v k ch value opened r = (p : List ℕ) → seen p r ≡ kept_with (with_desk (seen p s) (left_by v k ch value (seen p s).desk)) opened
 
 -- and after any other event that left x
-abbrev pub Lasts : Session → Setting → declared.Left → Silenced → List Bool → Float → Session → Type 0
-Lasts s at x silenced opened now r = (p : List ℕ) → seen p r ≡ kept_with (left_of (seen p s) at.ticks at.due now x (seen_silenced silenced)) opened
+abbrev pub Lasts : Session → Setting → declared.Left → Lamps → Silenced → List Bool → Float → Session → Type 0
+Lasts s at x lamps silenced opened now r = (p : List ℕ) → seen p r ≡ kept_with (left_of (seen p s) at.ticks at.due now x lamps (seen_silenced silenced)) opened

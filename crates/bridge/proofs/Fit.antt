@@ -22,14 +22,14 @@ use Rattle.session.specs.declared.Flash.{Flash}
 use Rattle.session.specs.declared.Strips.{Strips}
 use Rattle.definition.specs.Shape.{shaped_line, shaped_strips, good_turn, shaped_turns, shaped_silenced, shaped_flash, well_shaped}
 use Rattle.definition.specs.Step.{seen}
-use Rattle.surface.specs.Home.{has_note}
+use Rattle.surface.specs.Note.{has_note}
 use Rattle.bounds.specs.Well.{Well}
 use Rattle.bounds.specs.Whole.{line_well}
 use Rattle.after.specs.After.{few_strips, Places}
 
 -- ── the flash ──
 
-flash_tests : (f : Flash) → shaped_flash f ≡ true → f.on ≡ true → (f.row ≤ 7) × (f.base + f.column ≤ 255)
+flash_tests : (f : Flash) → shaped_flash f ≡ true → f.on ≡ true → f.base + f.column ≤ 255
 unfolding shaped_flash
 flash_tests f e on = at f.on on e
   where
@@ -40,19 +40,18 @@ flash_tests f e on = at f.on on e
     base_at true q h = omega (arith, eqb-true f.base 0 q)
     base_at false q h = omega (arith, eqb-true f.base 8 h)
 
-    at : (b : Bool) → b ≡ true → (not b || every tests) ≡ true → (f.row ≤ 7) × (f.base + f.column ≤ 255)
+    at : (b : Bool) → b ≡ true → (not b || every tests) ≡ true → f.base + f.column ≤ 255
     at true q h =
-        let row : f.row ≤ 7 = leb-true f.row 7 (every-at tests 0 h) in
         let column : f.column ≤ 7 = leb-true f.column 7 (every-at tests 1 h) in
         let base : f.base ≤ 8 = base_at (eqb f.base 0) refl (every-at tests 2 h) in
-        (row, omega arith)
+        omega arith
     at false q h = absurd (true≢false (rw q))
 
 flash_note : (f : Flash) → shaped_flash f ≡ true → has_note f ≡ true
 flash_note f e = at f.on refl
   where
     at : (b : Bool) → f.on ≡ b → pick b (leb (f.base + f.column) 255) true ≡ true
-    at true q = le-leb (f.base + f.column) 255 (flash_tests f e q).1
+    at true q = le-leb (f.base + f.column) 255 (flash_tests f e q)
     at false q = refl
 
 -- ── the session ──
@@ -103,9 +102,6 @@ module _ (p : List ℕ) (s : Session) (e : well_shaped p s ≡ true) where
 
   pub note_is : has_note s.lamps.flash ≡ true
   note_is = flash_note s.lamps.flash flash-is
-
-  pub row_low : s.lamps.flash.on ≡ true → s.lamps.flash.row ≤ 7
-  row_low on = (flash_tests s.lamps.flash flash-is on).0
 
   live_few : (l : List Strips) → all_of shaped_strips l ≡ true → all_of few_strips l ≡ true
   unfolding all_of shaped_strips

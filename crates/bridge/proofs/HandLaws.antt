@@ -30,7 +30,7 @@ use Rattle.lookup.specs.View.{view_of}
 use Rattle.drivers.specs.Talk.{Talk, Got, got, next, start}
 use Rattle.drivers.specs.Bytes.{joined, encode}
 use Rattle.drivers.specs.Shown.{shown}
-use Rattle.drivers.specs.declared.Io.{Io}
+use Rattle.drivers.specs.declared.line.Io.{Io}
 use Rattle.session.specs.Session.{Turn, turn_at, seen_turns, is_encoder, wires_to, is_dest, turn, RoomToTurn, is_marked, last_move, seen_line, seen_strips, good_strip, same_number, strips_at}
 use Rattle.session.specs.declared.Session.{Session}
 use Rattle.session.specs.declared.Turns.{Turns}
@@ -41,29 +41,32 @@ use Rattle.definition.specs.Faders.{Desk, desk, in_range, declined_by, turn_to, 
 use Rattle.definition.specs.Shape.{shaped_strips, good_turn, well_shaped}
 use Rattle.definition.specs.Step.{Kept, Left, Ended, done, refused, Stepped, stepped, seen, rig_at, with_desk, act, refusal, step_if, step}
 use Rattle.rig.specs.Seen.{rig_in}
-use Rattle.rig.specs.declared.Current.{Current}
+use Rattle.rig.specs.declared.current.Current.{Current}
 use Rattle.hands.specs.Sums.{SumsFit}
+use Rattle.hands.specs.Declined.{number_of}
+use Rattle.hands.specs.declared.encoders.Declined.{Declined}
+use Rattle.hands.specs.declared.encoders.Declined.TheVariants.{Range, Full}
 use Rattle.hands.specs.Verdicts.{left_by, controlled, Fades}
 use Rattle.hands.specs.declared.Verdict.{Verdict}
-use Rattle.delivery.specs.Delivery.{outcome_of, is_done, messages_after, calls_after, end_of, HasRoom}
+use Rattle.delivery.specs.Delivery.{Done, Refused, told, told_done, outcome_of, is_done, messages_after, calls_after, end_of, HasRoom}
 use Rattle.delivery.specs.declared.Outcome.{Outcome}
-use Rattle.delivery.specs.declared.Outcome.TheVariants as outcome
 use Rattle.after.specs.After.{kept_with, KeepsPlaces, with_turns}
 use Rattle.after.specs.After as after
 use Rattle.bounds.specs.Well.{Well}
 use Rattle.bounds.specs.Whole.{well_seen}
 use Rattle.bounds.proofs.WellStep.{step_well}
-use Rattle.bridge.specs.Bridge.{IsCurrent, moved_at, turned_at, Moves, Turns as TurnsAs}
-use Rattle.bridge.proofs.StepLaws.{did, room_for_lem, undone_delivers, done_delivers}
+use Rattle.bridge.specs.Bridge.{IsCurrent, moved_at, turned_at, moved_of, Asks, Moves, Turns as TurnsAs}
+use Rattle.bridge.specs.declared.Asked.{Asked}
+use Rattle.bridge.proofs.StepLaws.{did, done_told, room_for_lem, undone_delivers, done_delivers}
 use Rattle.bridge.proofs.Fit.{places, shaped-again}
 use Rattle.lookup.specs.declared.Destination.{Destination}
 
 -- ── the current bank ──
 
 -- the definition's rig there is what a handler is handed
-pub rig_is : (p : List ℕ) (s : Session) (b : ℕ) (c : Current) → IsCurrent s.live b c → rig_at (view_of p) (seen p s) b ≡ rig_in p c
+pub rig_is : (p : List ℕ) (s : Session) (b : ℕ) (c : Current) → IsCurrent p s.live b c → rig_at (view_of p) (seen p s) b ≡ rig_in c
 unfolding seen
-rig_is p s b c i = rw (i.bank, i.strips)
+rig_is p s b c i = rw (i.profile, i.bank, i.strips)
 
 -- what stands past the live lists is not known
 abbrev past : Strips
@@ -87,27 +90,15 @@ list_few (x ∷ l) zero e k = few_at x.known k (left_of_lem (shaped_strips x) (a
     few_at false q h = absurd (true≢false (sym q))
 list_few (x ∷ l) (suc b) e k = list_few l b (right_of (shaped_strips x) (all_of shaped_strips l) e) k
 
+-- the bank's list
 module _ (l : Live) (b : ℕ) (s : Strips) (at : s ≡ strips_at b l) where
-  at_seen : seen_strips s ≡ get_or (map seen_strips l.banks) b None
+  pub at_seen : seen_strips s ≡ get_or (map seen_strips l.banks) b None
   unfolding strips_at
   at_seen = rw at (list_seen l.banks b)
 
-  pub known_bank : all_of shaped_strips l.banks ≡ true → s.known ≡ true → IsCurrent l b (record { bank = b; strips = s })
+  pub few_at : all_of shaped_strips l.banks ≡ true → s.known ≡ true → s.count ≤ 8
   unfolding strips_at
-  known_bank e k =
-      record {
-        bank = refl;
-        strips = at_seen;
-        few = rw at (list_few l.banks b e (ap (λ (x : Strips). x.known) (sym at) ∙ k));
-      }
-
-  pub unknown_bank : s.known ≡ false → IsCurrent l b (record { bank = b; strips = record { known = s.known; list = s.list; count = 0 } })
-  unfolding seen_strips
-  unknown_bank k = record { bank = refl; strips = none_seen s.known refl ∙ at_seen; few = omega arith }
-    where
-      none_seen : (y : Bool) → s.known ≡ y → seen_strips (record { known = s.known; list = s.list; count = 0 }) ≡ seen_strips s
-      none_seen true q = absurd (true≢false (sym q ∙ k))
-      none_seen false q = rw q
+  few_at e k = rw at (list_few l.banks b e (ap (λ (x : Strips). x.known) (sym at) ∙ k))
 
 -- ── the sums: a turn is small, and leaves them an i32 ──
 
@@ -124,11 +115,11 @@ sum_small (pos a) (negsuc b) m n h k = sub_small a (suc b) (m + n) (omega arith)
 sum_small (negsuc a) (pos b) m n h k = sub_small b (suc a) (m + n) (omega arith) (omega arith)
 sum_small (negsuc a) (negsuc b) m n h k = omega arith
 
-small_fits : (z : ℤ) → nat_abs z ≤ 2000000 → SFits w32 z
+pub small_fits : (z : ℤ) → nat_abs z ≤ 2000000 → SFits w32 z
 small_fits (pos n) h = record { sfits = omega arith }
 small_fits (negsuc n) h = record { sfits = omega arith }
 
-range_small : (z : ℤ) → in_range z ≡ true → nat_abs z ≤ 1000000
+pub range_small : (z : ℤ) → in_range z ≡ true → nat_abs z ≤ 1000000
 range_small (pos n) e = leb-true n 1000000 e
 range_small (negsuc n) e = let h : n ≤ 999999 = leb-true n 999999 (and_left (leb n 999999) true e) in omega arith
 
@@ -183,6 +174,11 @@ module _ (p : List ℕ) (t : Turns) (lk : length t.records ≡ 136) (ln : length
 
 -- ── an encoder ──
 
+-- each cause to decline a turn has a number
+pub declined_by_one : (d : Declined) → number_of d ≡ 0 → ⊥
+declined_by_one Range e = omega arith
+declined_by_one Full e = omega arith
+
 -- the record in reach is an encoder's, and its number a u16
 module _ (p : List ℕ) (bank number k : ℕ) (q : encoder_place p bank number ≡ Some k) where
   pub place-encoder : is_encoder p k ≡ true
@@ -219,25 +215,35 @@ module _ (p : List ℕ) (s : Session) (ch : ℕ) (delta : ℤ) where
 
   module _ (e : well_shaped p s ≡ true) where
     -- no encoder is there
-    pub unwired : (o : Outcome) → o ≡ outcome.Done 0 0 0 false → encoder_place p s.bank (ch + 1) ≡ None →
+    pub unwired : (o : Outcome) → told o ≡ Done 0 0 0 false → encoder_place p s.bank (ch + 1) ≡ None →
         TurnsAs p s ch delta (record { outcome = o; session = s; changed = false })
     unfolding seen joined encode at_front
     unwired o q bare now answers ms cs =
         rw (encoder-ends now answers None bare)
-        (record { outcome = q; session = refl; still = λ i. absurd (true≢false i); same = λ _. refl; shaped = λ _. e; messages = refl; calls = refl; few = (omega arith, omega arith) })
+        (record {
+          outcome = q;
+          same = λ _. refl;
+          leaves =
+              record { session = refl; still = λ i. absurd (true≢false i); shaped = λ _. e; messages = refl; calls = refl; few = (omega arith, omega arith) };
+        })
 
     -- a turn that is declined
-    pub unturned : (k why : ℕ) → encoder_place p s.bank (ch + 1) ≡ Some k → why ≡ declined_by (find (is_dest (dest_at p k)) turns) delta turns → (why ≡ 0 → ⊥) →
-        TurnsAs p s ch delta (record { outcome = outcome.Refused why; session = s; changed = false })
-    unturned k why q d declines now answers ms cs =
+    pub unturned : (k why : ℕ) (o : Outcome) → told o ≡ Refused why → encoder_place p s.bank (ch + 1) ≡ Some k →
+        why ≡ declined_by (find (is_dest (dest_at p k)) turns) delta turns → (why ≡ 0 → ⊥) →
+        TurnsAs p s ch delta (record { outcome = o; session = s; changed = false })
+    unturned k why o r q d declines now answers ms cs =
         rw (encoder-ends now answers (Some k) q, ← d, ne_eqb why 0 declines)
-        (record { outcome = refl; session = refl; still = λ _. refl; same = λ _. refl; shaped = λ _. e; messages = refl; calls = refl; few = tt })
+        (record {
+          outcome = r;
+          same = λ _. refl;
+          leaves = record { session = refl; still = λ _. refl; shaped = λ _. e; messages = refl; calls = refl; few = tt };
+        })
 
     -- a turn that adds to its sum: `after` is what the sums are then
     pub turned : (k : ℕ) (after : Turns) (o : Outcome) → verdict p ≡ 0 → length s.opened ≡ 16 → ch < 8 → in_range delta ≡ true →
         encoder_place p s.bank (ch + 1) ≡ Some k → declined_by (find (is_dest (dest_at p k)) turns) delta turns ≡ 0 →
         seen_turns p after ≡ turn (dest_at p k) delta turns → all_of (is_encoder p) (take after.count after.records) ≡ true → after.count ≤ 136 →
-        o ≡ outcome.Done 0 0 0 false → TurnsAs p s ch delta (record { outcome = o; session = with_turns s after; changed = true })
+        told o ≡ Done 0 0 0 false → TurnsAs p s ch delta (record { outcome = o; session = with_turns s after; changed = true })
     unfolding seen joined encode at_front
     turned k after o accepted long low small q d sums wired few r now answers ms cs =
         let x = encoder-ends now answers (Some k) q in
@@ -253,13 +259,16 @@ module _ (p : List ℕ) (s : Session) (ch : ℕ) (delta : ℤ) where
         rw y
         (record {
           outcome = r;
-          session = z;
-          still = λ i. absurd (true≢false i);
           same = λ i. absurd (true≢false i);
-          shaped = λ _. shaped-again p (with_turns s after) v (record { line = f.line; turns = few; encoders = wired; silenced = f.silenced; live = f.live });
-          messages = refl;
-          calls = refl;
-          few = (omega arith, omega arith);
+          leaves =
+              record {
+                session = z;
+                still = λ i. absurd (true≢false i);
+                shaped = λ _. shaped-again p (with_turns s after) v (record { line = f.line; turns = few; encoders = wired; silenced = f.silenced; live = f.live });
+                messages = refl;
+                calls = refl;
+                few = (omega arith, omega arith);
+              };
         })
 
 -- ── a fader ──
@@ -275,41 +284,41 @@ module _ (p : List ℕ) (s : Session) (ch : ℕ) (value : Float) (answers : List
   abbrev pub Ran : Talk → Type 0
   Ran u =
       got (left_by v (s.bank * 16 + ch) ch value (seen p s).desk) u
-      ≡ fader_to (destination (rig_in p c) (ch + 1)) (s.bank * 16 + ch) ch value (seen p s).desk (start answers s.opened)
+      ≡ fader_to (destination (rig_in c) (ch + 1)) (s.bank * 16 + ch) ch value (seen p s).desk (start answers s.opened)
 
   -- where the mark stands, nothing was asked
-  pub unasked : v ≡ controlled (destination (rig_in p c) (ch + 1)) → is_marked (s.bank * 16 + ch) s.marks ≡ true → Ran (start answers s.opened)
+  pub unasked : v ≡ controlled (destination (rig_in c) (ch + 1)) → is_marked (s.bank * 16 + ch) s.marks ≡ true → Ran (start answers s.opened)
   unfolding seen
   unasked q m =
       ap (λ (w : Verdict). got (left_by w (s.bank * 16 + ch) ch value (seen p s).desk) (start answers s.opened)) q
-      ∙ controls (destination (rig_in p c) (ch + 1)) (s.bank * 16 + ch) ch value (seen p s).desk (start answers s.opened) m
+      ∙ controls (destination (rig_in c) (ch + 1)) (s.bank * 16 + ch) ch value (seen p s).desk (start answers s.opened) m
 
   -- and else what the handler says, of the last move there
-  pub asked : (last : Option Float) (t u : Talk) → t ≡ start answers s.opened → Fades (destination (rig_in p c) (ch + 1)) last value t v u →
+  pub asked : (last : Option Float) (t u : Talk) → t ≡ start answers s.opened → Fades (destination (rig_in c) (ch + 1)) last value t v u →
       is_marked (s.bank * 16 + ch) s.marks ≡ false → last ≡ last_move (s.bank * 16 + ch) s.moves → Ran u
   unfolding seen
   asked last t u b f m l =
       f (s.bank * 16 + ch) ch (seen p s).desk m (sym l)
-      ∙ ap (λ (w : Talk). fader_to (destination (rig_in p c) (ch + 1)) (s.bank * 16 + ch) ch value (seen p s).desk w) b
+      ∙ ap (λ (w : Talk). fader_to (destination (rig_in c) (ch + 1)) (s.bank * 16 + ch) ch value (seen p s).desk w) b
 
--- a move that left the verdict v and the line `line`
-module _ (p : List ℕ) (s : Session) (ch : ℕ) (value : Float) (answers : List ℕ) (c : Current) (i : IsCurrent s.live s.bank c) (v : Verdict) (line : Talk)
-    (ran : Ran p s ch value answers c v line) where
+-- a move that left the verdict v and the line `line`, as the handler ran it
+pub fader-is : (p : List ℕ) (s : Session) (ch : ℕ) (value : Float) (answers : List ℕ) (c : Current) → IsCurrent p s.live s.bank c → (v : Verdict) (line : Talk) →
+    Ran p s ch value answers c v line → moved_of p s ch value answers ≡ got (left_by v (s.bank * 16 + ch) ch value (seen p s).desk) line
+unfolding fader seen moved_of
+fader-is p s ch value answers c i v line ran =
+    ap (λ (r : Rig). fader r ch value (seen p s).desk (start answers s.opened)) (rig_is p s s.bank c i)
+    ∙ ap (λ (n : ℕ). fader_to (destination (rig_in c) (ch + 1)) (n * 16 + ch) ch value (seen p s).desk (start answers s.opened)) i.bank
+    ∙ sym ran
+
+module _ (p : List ℕ) (s : Session) (ch : ℕ) (value : Float) (answers : List ℕ) (v : Verdict) (line : Talk)
+    (is : moved_of p s ch value answers ≡ got (left_by v (s.bank * 16 + ch) ch value (seen p s).desk) line) where
   abbrev left : Desk
   left = left_by v (s.bank * 16 + ch) ch value (seen p s).desk
 
-  -- the move as the handler ran it
-  fader-is : fader (rig_at (view_of p) (seen p s) s.bank) ch value (seen p s).desk (start answers s.opened) ≡ got left line
-  unfolding fader seen
-  fader-is =
-      ap (λ (r : Rig). fader r ch value (seen p s).desk (start answers s.opened)) (rig_is p s s.bank c i)
-      ∙ ap (λ (n : ℕ). fader_to (destination (rig_in p c) (ch + 1)) (n * 16 + ch) ch value (seen p s).desk (start answers s.opened)) i.bank
-      ∙ sym ran
-
   -- and its event, at any time
   did-is : (now : Float) → did (view_of p) (seen p s) (moved_at now ch value) answers ≡ got (with_desk (seen p s) left) line
-  unfolding act next seen
-  did-is now = ap (λ (g : Got Desk). next g (λ d. got (with_desk (seen p s) d))) fader-is
+  unfolding act next seen moved_of
+  did-is now = ap (λ (g : Got Desk). next g (λ d. got (with_desk (seen p s) d))) is
 
   free : (now : Float) → refusal (moved_at now ch value).what (view_of p) (seen p s) now ≡ 0
   unfolding refusal
@@ -323,12 +332,12 @@ module _ (p : List ℕ) (s : Session) (ch : ℕ) (value : Float) (answers : List
 
   module _ (accepted : verdict p ≡ 0) (e : well_shaped p s ≡ true) (long : length s.opened ≡ 16) (low : ch < 16) where
     -- a line that goes on has room, whatever the event's time is
-    pub move_room : (io : Io) (cs ms : List ℕ) → shown answers io cs ms ≡ line → HasRoom io
-    move_room io cs ms q =
-        room_for_lem p accepted (seen p s) (well_seen p s long e) (moved_at value ch value) answers (free value) io cs ms
+    pub move_room : (io : Io) → shown io ≡ line → HasRoom io
+    move_room io q =
+        room_for_lem p accepted (seen p s) (well_seen p s long e) (moved_at value ch value) answers (free value) io
         (q ∙ sym (ap (λ (g : Got Left). g.talk) (did-is value)))
 
-    module _ (o : Outcome) (ms₀ cs₀ ms₁ cs₁ : List ℕ) (ho : o ≡ outcome_of (end_of line false)) (hm : ms₁ ≡ messages_after (end_of line false) ms₀)
+    module _ (o : Outcome) (ms₀ cs₀ ms₁ cs₁ : List ℕ) (ho : told o ≡ outcome_of (end_of line false)) (hm : ms₁ ≡ messages_after (end_of line false) ms₀)
         (hc : cs₁ ≡ calls_after (end_of line false) cs₀) where
       -- one that waits or is refused
       pub unmoved : is_done (end_of line false) ≡ false → Moves p s ch value answers ms₀ cs₀ (record { outcome = o; session = s; changed = false }) ms₁ cs₁
@@ -347,12 +356,34 @@ module _ (p : List ℕ) (s : Session) (ch : ℕ) (value : Float) (answers : List
           (hc ∙ ap (λ (y : Ended). calls_after y cs₀) (sym (end_is now)))
 
 -- a fader in control leaves the lent buffers as they were
-pub in_control : (p : List ℕ) (s : Session) (ch : ℕ) (value : Float) (answers : List ℕ) (c : Current) → IsCurrent s.live s.bank c → (v : Verdict) →
-    v ≡ controlled (destination (rig_in p c) (ch + 1)) → is_marked (s.bank * 16 + ch) s.marks ≡ true → verdict p ≡ 0 → well_shaped p s ≡ true →
-    length s.opened ≡ 16 → ch < 16 → (o : Outcome) → o ≡ outcome.Done 0 0 0 false → (x : Session) →
+pub in_control : (p : List ℕ) (s : Session) (ch : ℕ) (value : Float) (answers : List ℕ) (c : Current) → IsCurrent p s.live s.bank c → (v : Verdict) →
+    v ≡ controlled (destination (rig_in c) (ch + 1)) → is_marked (s.bank * 16 + ch) s.marks ≡ true → verdict p ≡ 0 → well_shaped p s ≡ true →
+    length s.opened ≡ 16 → ch < 16 → (o : Outcome) → told o ≡ Done 0 0 0 false → (x : Session) →
     after.Fades s v (s.bank * 16 + ch) ch value s.opened x → KeepsPlaces s x → (ms cs : List ℕ) →
     Moves p s ch value answers ms cs (record { outcome = o; session = x; changed = true }) ms cs
 unfolding joined encode at_front
 in_control p s ch value answers c i v q m accepted e long low o ho x fades keeps ms cs =
-    moved p s ch value answers c i v (start answers s.opened) (unasked p s ch value answers c v q m) accepted e long low o ms cs ms cs ho refl refl refl x fades
-    keeps
+    moved p s ch value answers v (start answers s.opened) (fader-is p s ch value answers c i v (start answers s.opened) (unasked p s ch value answers c v q m))
+    accepted e long low o ms cs ms cs ho refl refl refl x fades keeps
+
+-- one that asked its device, by what became of that
+module _ (p : List ℕ) (s : Session) (ch : ℕ) (value : Float) (answers ms cs : List ℕ) (r : Asked) (ms₁ cs₁ : List ℕ)
+    (a : Asks p s ch value answers ms cs r ms₁ cs₁) (accepted : verdict p ≡ 0) (e : well_shaped p s ≡ true) (long : length s.opened ≡ 16) (low : ch < 16)
+    (b : Bool) (told-is : b ≡ told_done (told r.outcome)) where
+  abbrev line : Talk
+  line = (moved_of p s ch value answers).talk
+
+  is : moved_of p s ch value answers ≡ got (left_by r.verdict (s.bank * 16 + ch) ch value (seen p s).desk) line
+  is = ap (λ (d : Desk). got d line) (sym a.left)
+
+  done-is : b ≡ is_done (end_of line false)
+  done-is = told-is ∙ ap told_done a.outcome ∙ done_told (end_of line false)
+
+  pub asked_undone : b ≡ false → Moves p s ch value answers ms cs (record { outcome = r.outcome; session = s; changed = false }) ms₁ cs₁
+  asked_undone h = unmoved p s ch value answers r.verdict line is accepted e long low r.outcome ms cs ms₁ cs₁ a.outcome a.messages a.calls (sym done-is ∙ h)
+
+  pub asked_done : b ≡ true → (x : Session) → after.Fades s r.verdict (s.bank * 16 + ch) ch value r.opened x → KeepsPlaces s x →
+      Moves p s ch value answers ms cs (record { outcome = r.outcome; session = x; changed = true }) ms₁ cs₁
+  asked_done h x fades keeps =
+      moved p s ch value answers r.verdict line is accepted e long low r.outcome ms cs ms₁ cs₁ a.outcome a.messages a.calls (sym done-is ∙ h) x
+      (subst (λ (o : List Bool). after.Fades s r.verdict (s.bank * 16 + ch) ch value o x) a.opened fades) keeps

@@ -43,5 +43,5 @@ pub stays-shaped : (d : Stepped) (p : List ℕ) (s : Session) (ms cs : List ℕ)
 stays-shaped d p s ms cs r ms₁ cs₁ x shaped = at (is_done d.ended) refl
   where
     at : (b : Bool) → is_done d.ended ≡ b → well_shaped p r.session ≡ true
-    at true q = x.shaped q
-    at false q = subst (λ (z : Session). well_shaped p z ≡ true) (sym (x.still q)) shaped
+    at true q = x.leaves.shaped q
+    at false q = subst (λ (z : Session). well_shaped p z ≡ true) (sym (x.leaves.still q)) shaped

@@ -17,11 +17,13 @@ use Rattle.base.specs.Tail.{at_front}
 use Rattle.protocol.specs.declared.Event.TheVariants as event
 use Rattle.profile.specs.Profile.{verdict}
 use Rattle.lookup.specs.View.{View, view_of}
-use Rattle.drivers.specs.Talk.{Stop, going, waits, declined, overrun, Talk, Got, got, start, next}
-use Rattle.drivers.specs.Shown.{shown, stop_in}
+use Rattle.drivers.specs.Talk.{is_going, Talk, Got, got, start, next}
+use Rattle.drivers.specs.declared.line.Stop.{Stop}
+use Rattle.drivers.specs.declared.line.Stop.TheVariants.{Going, Waits, Declined, Overrun}
+use Rattle.drivers.specs.Shown.{shown}
 use Rattle.drivers.specs.Bytes.{joined, encode}
 use Rattle.drivers.specs.BytesLaws.{calls_length, messages_length}
-use Rattle.drivers.specs.declared.Io.{Io}
+use Rattle.drivers.specs.declared.line.Io.{Io}
 use Rattle.drivers.specs.declared.Call.{Call}
 use Rattle.session.specs.Session.{Turn, targets_of}
 use Rattle.session.specs.declared.Session.{Session}
@@ -42,9 +44,8 @@ use Rattle.bounds.specs.Well.{Well}
 use Rattle.bounds.proofs.WellRoom.{well_few}
 use Rattle.bounds.proofs.WellStep.{step_well}
 use Rattle.after.specs.After.{kept_with, Places}
-use Rattle.delivery.specs.Delivery.{outcome_of, is_done, messages_after, calls_after, end_if, end_of, HasRoom}
+use Rattle.delivery.specs.Delivery.{Done, Refused, told, told_done, outcome_of, is_done, messages_after, calls_after, end_if, end_of, HasRoom}
 use Rattle.delivery.specs.declared.Outcome.{Outcome}
-use Rattle.delivery.specs.declared.Outcome.TheVariants as outcome
 use Rattle.bridge.specs.declared.Stepped as declared
 use Rattle.bridge.specs.declared.which.Hand.{Hand}
 use Rattle.bridge.specs.declared.which.Hand.TheVariants as hand
@@ -73,43 +74,55 @@ module _ (v : View) (k : Kept) (r : Got Left) where
   ends_so = at r.talk.stop
     where
       at : (s : Stop) → (finish s v k r).ended ≡ end_if s r.talk (r.value.saved && v.remember)
-      at going = refl
-      at (waits c) = refl
-      at declined = refl
-      at overrun = refl
+      at Going = refl
+      at (Waits c) = refl
+      at Declined = refl
+      at Overrun = refl
 
   pub done_keeps : is_done (end_of r.talk (r.value.saved && v.remember)) ≡ true → (finished v k r).kept ≡ kept_with r.value r.talk.opened
   done_keeps = at r.talk.stop
     where
       at : (s : Stop) → is_done (end_if s r.talk (r.value.saved && v.remember)) ≡ true → (finish s v k r).kept ≡ kept_with r.value r.talk.opened
-      at going h = refl
-      at (waits c) h = absurd (false≢true h)
-      at declined h = absurd (false≢true h)
-      at overrun h = absurd (false≢true h)
+      at Going h = refl
+      at (Waits c) h = absurd (false≢true h)
+      at Declined h = absurd (false≢true h)
+      at Overrun h = absurd (false≢true h)
 
   pub undone_keeps : is_done (end_of r.talk (r.value.saved && v.remember)) ≡ false → (finished v k r).kept ≡ k
   undone_keeps = at r.talk.stop
     where
       at : (s : Stop) → is_done (end_if s r.talk (r.value.saved && v.remember)) ≡ false → (finish s v k r).kept ≡ k
-      at going h = absurd (true≢false h)
-      at (waits c) h = refl
-      at declined h = refl
-      at overrun h = refl
+      at Going h = absurd (true≢false h)
+      at (Waits c) h = refl
+      at Declined h = refl
+      at Overrun h = refl
+
+-- an outcome tells whether its event is done
+pub done_told : (x : Ended) → told_done (outcome_of x) ≡ is_done x
+done_told (done ms cs used saved) = refl
+done_told (refused why) = refl
+done_told (waiting c) = refl
 
 -- ── room ──
 
+going_is : (s : Stop) → is_going s ≡ true → s ≡ Going
+going_is Going h = refl
+going_is (Waits c) h = absurd (false≢true h)
+going_is Declined h = absurd (false≢true h)
+going_is Overrun h = absurd (false≢true h)
+
 -- a line that goes on is that of a done event: it has at most 102 messages and 337 calls
 pub room_for_lem : (p : List ℕ) → verdict p ≡ 0 → (k : Kept) → Well p k → (e : Timed) (answers : List ℕ) → refusal e.what (view_of p) k e.time ≡ 0 →
-    (io : Io) (cs ms : List ℕ) → shown answers io cs ms ≡ (did (view_of p) k e answers).talk → HasRoom io
+    (io : Io) → shown io ≡ (did (view_of p) k e answers).talk → HasRoom io
 unfolding shown
-room_for_lem p ok k well e answers free io cs ms q h =
+room_for_lem p ok k well e answers free io q h =
     let r = did (view_of p) k e answers in
-    let goes : r.talk.stop ≡ going = sym (ap (λ (t : Talk). t.stop) q) ∙ ap (λ n. stop_in n io.due) h in
+    let goes : r.talk.stop ≡ Going = sym (ap (λ (t : Talk). t.stop) q) ∙ going_is io.stop h in
     let end : (step (view_of p) k e answers).ended ≡ done r.talk.messages r.talk.calls _ _ =
     ap (λ (x : Stepped). x.ended) (step-runs (view_of p) k e answers free) ∙ ends_so (view_of p) k r ∙ ap (λ s. end_if s r.talk (r.value.saved && (view_of p).remember)) goes in
     let few = well_few p ok k well e answers _ _ _ _ end in
-    let sent : length r.talk.messages ≡ io.sent = ap (λ (t : Talk). length t.messages) (sym q) ∙ messages_length io.sent ms in
-    let asked : length r.talk.calls ≡ io.asked = ap (λ (t : Talk). length t.calls) (sym q) ∙ calls_length io.asked cs in
+    let sent : length r.talk.messages ≡ io.sent = ap (λ (t : Talk). length t.messages) (sym q) ∙ messages_length io.sent io.messages in
+    let asked : length r.talk.calls ≡ io.asked = ap (λ (t : Talk). length t.calls) (sym q) ∙ calls_length io.asked io.calls in
     (omega (arith, few.0, sent), omega (arith, few.1, asked))
 
 -- ── what is delivered ──
@@ -122,36 +135,27 @@ abbrev pub goes : Outcome → Session → declared.Stepped
 goes o s = record { outcome = o; session = s; changed = true }
 
 -- a refused event leaves all as it was
-pub declines : (d : Stepped) (why : ℕ) (p : List ℕ) (s : Session) (ms cs : List ℕ) → d ≡ stepped (refused why) (seen p s) →
-    Delivers d p s ms cs (stays (outcome.Refused why) s) ms cs
-declines d why p s ms cs q =
+pub declines : (d : Stepped) (why : ℕ) (p : List ℕ) (s : Session) (ms cs : List ℕ) (o : Outcome) → told o ≡ Refused why → d ≡ stepped (refused why) (seen p s) →
+    Delivers d p s ms cs (stays o s) ms cs
+declines d why p s ms cs o r q =
     rw q
     (record {
-      outcome = refl;
-      session = refl;
-      still = λ h. refl;
+      outcome = r;
       same = λ h. refl;
-      shaped = λ h. absurd (false≢true h);
-      messages = refl;
-      calls = refl;
-      few = tt;
+      leaves = record { session = refl; still = λ h. refl; shaped = λ h. absurd (false≢true h); messages = refl; calls = refl; few = tt };
     })
 
 -- an event that did nothing
-pub does_nothing : (d : Stepped) (p : List ℕ) (s : Session) (ms cs : List ℕ) → well_shaped p s ≡ true → d ≡ stepped (done [] [] 0 false) (seen p s) →
-    Delivers d p s ms cs (stays (outcome.Done 0 0 0 false) s) ms cs
+pub does_nothing : (d : Stepped) (p : List ℕ) (s : Session) (ms cs : List ℕ) (o : Outcome) → told o ≡ Done 0 0 0 false → well_shaped p s ≡ true →
+    d ≡ stepped (done [] [] 0 false) (seen p s) → Delivers d p s ms cs (stays o s) ms cs
 unfolding joined encode at_front
-does_nothing d p s ms cs w q =
+does_nothing d p s ms cs o r w q =
     rw q
     (record {
-      outcome = refl;
-      session = refl;
-      still = λ h. absurd (true≢false h);
+      outcome = r;
       same = λ h. refl;
-      shaped = λ h. w;
-      messages = refl;
-      calls = refl;
-      few = (omega arith, omega arith);
+      leaves =
+          record { session = refl; still = λ h. absurd (true≢false h); shaped = λ h. w; messages = refl; calls = refl; few = (omega arith, omega arith) };
     })
 
 -- at most 102 messages and 337 calls: of an event that is not done there is nothing to count
@@ -178,38 +182,44 @@ module _ (p : List ℕ) (ok : verdict p ≡ 0) (s : Session) (well : Well p (see
   end_is = ap (λ (x : Stepped). x.ended) (step-runs v (seen p s) e answers free) ∙ ends_so v (seen p s) (did v (seen p s) e answers)
 
   -- an event that stopped leaves all as it was
-  pub undone_delivers : (o : Outcome) (ms cs ms₁ cs₁ : List ℕ) → is_done end ≡ false → o ≡ outcome_of end → ms₁ ≡ messages_after end ms → cs₁ ≡ calls_after end cs →
+  pub undone_delivers : (o : Outcome) (ms cs ms₁ cs₁ : List ℕ) → is_done end ≡ false → told o ≡ outcome_of end → ms₁ ≡ messages_after end ms → cs₁ ≡ calls_after end cs →
       Delivers (step v (seen p s) e answers) p s ms cs (stays o s) ms₁ cs₁
   undone_delivers o ms cs ms₁ cs₁ u ho hm hc =
       record {
         outcome = rw end_is ho;
-        session =
-            sym (ap (λ (x : Stepped). x.kept) (step-runs v (seen p s) e answers free) ∙ undone_keeps v (seen p s) (did v (seen p s) e answers) u);
-        still = λ h. refl;
         same = λ h. refl;
-        shaped = λ h. absurd (false≢true (sym u ∙ ap is_done (sym end_is) ∙ h));
-        messages = rw end_is hm;
-        calls = rw end_is hc;
-        few = few_undone (step v (seen p s) e answers).ended (ap is_done end_is ∙ u);
+        leaves =
+            record {
+              session =
+                  sym (ap (λ (x : Stepped). x.kept) (step-runs v (seen p s) e answers free) ∙ undone_keeps v (seen p s) (did v (seen p s) e answers) u);
+              still = λ h. refl;
+              shaped = λ h. absurd (false≢true (sym u ∙ ap is_done (sym end_is) ∙ h));
+              messages = rw end_is hm;
+              calls = rw end_is hc;
+              few = few_undone (step v (seen p s) e answers).ended (ap is_done end_is ∙ u);
+            };
       }
 
   -- and one that is done leaves r, which is seen as what it left
   pub done_delivers : LowInput e.what → (o : Outcome) (r : Session) (ms cs ms₁ cs₁ : List ℕ) → is_done end ≡ true →
       seen p r ≡ kept_with (did v (seen p s) e answers).value (did v (seen p s) e answers).talk.opened → Places p r →
-      o ≡ outcome_of end → ms₁ ≡ messages_after end ms → cs₁ ≡ calls_after end cs →
+      told o ≡ outcome_of end → ms₁ ≡ messages_after end ms → cs₁ ≡ calls_after end cs →
       Delivers (step v (seen p s) e answers) p s ms cs (goes o r) ms₁ cs₁
   done_delivers low o r ms cs ms₁ cs₁ u q f ho hm hc =
       let kept-is : seen p r ≡ (step v (seen p s) e answers).kept =
       q ∙ sym (ap (λ (x : Stepped). x.kept) (step-runs v (seen p s) e answers free) ∙ done_keeps v (seen p s) (did v (seen p s) e answers) u) in
       record {
         outcome = rw end_is ho;
-        session = kept-is;
-        still = λ h. absurd (true≢false (sym u ∙ ap is_done (sym end_is) ∙ h));
         same = λ h. absurd (true≢false h);
-        shaped = λ h. shaped-again p r (subst (λ (x : Kept). Well p x) (sym kept-is) (step_well p ok (seen p s) well e low answers)) f;
-        messages = rw end_is hm;
-        calls = rw end_is hc;
-        few = few_done (step v (seen p s) e answers).ended (well_few p ok (seen p s) well e answers);
+        leaves =
+            record {
+              session = kept-is;
+              still = λ h. absurd (true≢false (sym u ∙ ap is_done (sym end_is) ∙ h));
+              shaped = λ h. shaped-again p r (subst (λ (x : Kept). Well p x) (sym kept-is) (step_well p ok (seen p s) well e low answers)) f;
+              messages = rw end_is hm;
+              calls = rw end_is hc;
+              few = few_done (step v (seen p s) e answers).ended (well_few p ok (seen p s) well e answers);
+            };
       }
 
 -- ── which event it is ──
@@ -225,15 +235,15 @@ runs_low input.PushTransport h = tt
 runs_low input.FlashBank h = tt
 
 -- a fader's hand is no encoder's, and neither is none
-abbrev sort : Hand → ℕ
-sort (hand.Fader ch x) = 0
-sort (hand.Encoder ch n) = 1
-sort hand.None = 2
+abbrev sort : Option Hand → ℕ
+sort (Some (hand.Fader ch x)) = 0
+sort (Some (hand.Encoder ch n)) = 1
+sort None = 2
 
-other : {A : Type 0} (a b : Hand) → eqb (sort a) (sort b) ≡ false → a ≡ b → A
+other : {A : Type 0} (a b : Option Hand) → eqb (sort a) (sort b) ≡ false → a ≡ b → A
 other a b n h = absurd (eqb-false (sort a) (sort b) n (ap sort h))
 
-pub others_run : (what : Input) → hand_of what ≡ hand.None → is_nothing what ≡ false → runs what ≡ true
+pub others_run : (what : Input) → hand_of what ≡ None → is_nothing what ≡ false → runs what ≡ true
 others_run (input.Midi (event.Fader ch x)) h n = other _ _ refl h
 others_run (input.Midi (event.Encoder ch d)) h n = other _ _ refl h
 others_run (input.Midi (event.Button b)) h n = at b.pressed n
@@ -247,10 +257,10 @@ others_run input.PushState h n = refl
 others_run input.PushTransport h n = refl
 others_run input.FlashBank h n = refl
 
-pub is_move : (e : Timed) (ch : ℕ) (x : Float) → hand_of e.what ≡ hand.Fader ch x → e ≡ moved_at e.time ch x
+pub is_move : (e : Timed) (ch : ℕ) (x : Float) → hand_of e.what ≡ Some (hand.Fader ch x) → e ≡ moved_at e.time ch x
 is_move e ch x = at e.what
   where
-    at : (w : Input) → hand_of w ≡ hand.Fader ch x → ◌≡◌ {A = Timed} (record { time = e.time; what = w }) (moved_at e.time ch x)
+    at : (w : Input) → hand_of w ≡ Some (hand.Fader ch x) → ◌≡◌ {A = Timed} (record { time = e.time; what = w }) (moved_at e.time ch x)
     at (input.Midi (event.Fader c y)) h = let same : c ≡ ch = cc in let value : y ≡ x = cc in rw (same, value)
     at (input.Midi (event.Encoder c d)) h = other _ _ refl h
     at (input.Midi (event.Button b)) h = other _ _ refl h
@@ -260,10 +270,10 @@ is_move e ch x = at e.what
     at input.PushTransport h = other _ _ refl h
     at input.FlashBank h = other _ _ refl h
 
-pub is-turn : (e : Timed) (ch : ℕ) (n : ℤ) → hand_of e.what ≡ hand.Encoder ch n → e ≡ turned_at e.time ch n
+pub is-turn : (e : Timed) (ch : ℕ) (n : ℤ) → hand_of e.what ≡ Some (hand.Encoder ch n) → e ≡ turned_at e.time ch n
 is-turn e ch n = at e.what
   where
-    at : (w : Input) → hand_of w ≡ hand.Encoder ch n → ◌≡◌ {A = Timed} (record { time = e.time; what = w }) (turned_at e.time ch n)
+    at : (w : Input) → hand_of w ≡ Some (hand.Encoder ch n) → ◌≡◌ {A = Timed} (record { time = e.time; what = w }) (turned_at e.time ch n)
     at (input.Midi (event.Encoder c d)) h = let same : c ≡ ch = cc in let delta : d ≡ n = cc in rw (same, delta)
     at (input.Midi (event.Fader c y)) h = other _ _ refl h
     at (input.Midi (event.Button b)) h = other _ _ refl h
@@ -274,19 +284,19 @@ is-turn e ch n = at e.what
     at input.FlashBank h = other _ _ refl h
 
 -- a fader's and an encoder's event, of which the handlers are told channel and value
-pub low_move : (e : Timed) (ch : ℕ) (x : Float) → LowInput e.what → hand_of e.what ≡ hand.Fader ch x → ch < 16
+pub low_move : (e : Timed) (ch : ℕ) (x : Float) → LowInput e.what → hand_of e.what ≡ Some (hand.Fader ch x) → ch < 16
 low_move e ch x low h = subst (λ (z : Timed). LowInput z.what) (is_move e ch x h) low
 
-pub low_turn : (e : Timed) (ch : ℕ) (n : ℤ) → LowInput e.what → hand_of e.what ≡ hand.Encoder ch n → (ch < 8) × (in_range n ≡ true)
+pub low_turn : (e : Timed) (ch : ℕ) (n : ℤ) → LowInput e.what → hand_of e.what ≡ Some (hand.Encoder ch n) → (ch < 8) × (in_range n ≡ true)
 low_turn e ch n low h = subst (λ (z : Timed). LowInput z.what) (is-turn e ch n h) low
 
-pub moves_so : (p : List ℕ) (s : Session) (e : Timed) (ch : ℕ) (x : Float) → hand_of e.what ≡ hand.Fader ch x →
+pub moves_so : (p : List ℕ) (s : Session) (e : Timed) (ch : ℕ) (x : Float) → hand_of e.what ≡ Some (hand.Fader ch x) →
     (answers ms cs : List ℕ) (r : declared.Stepped) (ms₁ cs₁ : List ℕ) → Moves p s ch x answers ms cs r ms₁ cs₁ →
     Delivers (step (view_of p) (seen p s) e answers) p s ms cs r ms₁ cs₁
 moves_so p s e ch x h answers ms cs r ms₁ cs₁ d =
     subst (λ (z : Timed). Delivers (step (view_of p) (seen p s) z answers) p s ms cs r ms₁ cs₁) (sym (is_move e ch x h)) (d e.time)
 
-pub turns_so : (p : List ℕ) (s : Session) (e : Timed) (ch : ℕ) (n : ℤ) → hand_of e.what ≡ hand.Encoder ch n →
+pub turns_so : (p : List ℕ) (s : Session) (e : Timed) (ch : ℕ) (n : ℤ) → hand_of e.what ≡ Some (hand.Encoder ch n) →
     (answers ms cs : List ℕ) (r : declared.Stepped) → Turns p s ch n r → Delivers (step (view_of p) (seen p s) e answers) p s ms cs r ms cs
 turns_so p s e ch n h answers ms cs r d =
     subst (λ (z : Timed). Delivers (step (view_of p) (seen p s) z answers) p s ms cs r ms cs) (sym (is-turn e ch n h)) (d e.time answers ms cs)

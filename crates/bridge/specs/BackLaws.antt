@@ -34,5 +34,5 @@ module _ (p : List ℕ) (s : Session) (answers : List ℕ) where
       Delivers (whole p s event answers messages calls) p s ms cs r ms₁ cs₁ → BackOf (whole p s event answers messages calls).ended ms₁ cs₁
   delivers_back event messages calls ms cs r ms₁ cs₁ h =
       let e : Ended = (whole p s event answers messages calls).ended in
-      subst (λ (l : List ℕ). BackOf e l cs₁) (sym h.messages)
-      (subst (λ (l : List ℕ). BackOf e (messages_after e ms) l) (sym h.calls) (back_of e ms cs (whole_three event messages calls)))
+      subst (λ (l : List ℕ). BackOf e l cs₁) (sym h.leaves.messages)
+      (subst (λ (l : List ℕ). BackOf e (messages_after e ms) l) (sym h.leaves.calls) (back_of e ms cs (whole_three event messages calls)))

@@ -9,8 +9,7 @@ use Rattle.bounds.specs.Whole.{whole_so}
 use Rattle.bounds.specs.Bounds.{UsedOf}
 use Rattle.bounds.specs.Room.{FewOf}
 use Rattle.bounds.specs.Used.{step-used}
-use Rattle.delivery.specs.Delivery.{outcome_of}
-use Rattle.delivery.specs.declared.Outcome.{Outcome}
+use Rattle.delivery.specs.Delivery.{Told, told, outcome_of}
 use Rattle.bridge.specs.Bridge.{Few, used_in, Delivers}
 use Rattle.bridge.specs.declared.Stepped as declared
 
@@ -22,8 +21,8 @@ few_of (refused why) h = tt
 few_of (waiting c) h = tt
 
 pub delivers_few : (d : Stepped) (p : List ℕ) (s : Session) (ms cs : List ℕ) (r : declared.Stepped) (ms₁ cs₁ : List ℕ) →
-    Delivers d p s ms cs r ms₁ cs₁ → Few r.outcome
-delivers_few d p s ms cs r ms₁ cs₁ h = subst (λ (o : Outcome). Few o) (sym h.outcome) (few_of d.ended h.few)
+    Delivers d p s ms cs r ms₁ cs₁ → Few (told r.outcome)
+delivers_few d p s ms cs r ms₁ cs₁ h = subst (λ (o : Told). Few o) (sym h.outcome) (few_of d.ended h.leaves.few)
 
 -- ── no more answers than were offered ──
 
@@ -38,6 +37,6 @@ module _ (p : List ℕ) (s : Session) (answers : List ℕ) where
       whole_so p s event answers messages calls (UsedOf (length answers)) (λ why. tt) (λ e. step-used (view_of p) (seen p s) e answers)
 
   pub delivers_used : (event : List ℕ) (messages calls : ℕ) (ms cs : List ℕ) (r : declared.Stepped) (ms₁ cs₁ : List ℕ) →
-      Delivers (whole p s event answers messages calls) p s ms cs r ms₁ cs₁ → 16 * used_in r.outcome ≤ length answers
+      Delivers (whole p s event answers messages calls) p s ms cs r ms₁ cs₁ → 16 * used_in (told r.outcome) ≤ length answers
   delivers_used event messages calls ms cs r ms₁ cs₁ h =
-      subst (λ (o : Outcome). 16 * used_in o ≤ length answers) (sym h.outcome) (used_of (length answers) (whole p s event answers messages calls).ended (whole-used event messages calls))
+      subst (λ (o : Told). 16 * used_in o ≤ length answers) (sym h.outcome) (used_of (length answers) (whole p s event answers messages calls).ended (whole-used event messages calls))

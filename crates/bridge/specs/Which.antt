@@ -5,21 +5,21 @@ use Rattle.protocol.specs.declared.Event.TheVariants as event
 use Rattle.session.specs.declared.Lamps.{Lamps}
 use Rattle.event.specs.declared.Input.{Input}
 use Rattle.event.specs.declared.Input.TheVariants as input
-use Rattle.rig.specs.declared.Current.{Current}
+use Rattle.rig.specs.declared.current.Current.{Current}
 use Rattle.bridge.specs.Presses.{bank_after, added_of}
 use Rattle.bridge.specs.declared.which.Hand.{Hand}
 use Rattle.bridge.specs.declared.which.Hand.TheVariants as hand
 
 -- what a hand moved, if it was a fader or an encoder
-abbrev pub hand_of : Input → Hand
-hand_of (input.Midi (event.Fader ch value)) = hand.Fader ch value
-hand_of (input.Midi (event.Encoder ch delta)) = hand.Encoder ch delta
-hand_of (input.Midi (event.Button b)) = hand.None
-hand_of (input.Midi event.Other) = hand.None
-hand_of input.Tick = hand.None
-hand_of input.PushState = hand.None
-hand_of input.PushTransport = hand.None
-hand_of input.FlashBank = hand.None
+abbrev pub hand_of : Input → Option Hand
+hand_of (input.Midi (event.Fader ch value)) = Some (hand.Fader ch value)
+hand_of (input.Midi (event.Encoder ch delta)) = Some (hand.Encoder ch delta)
+hand_of (input.Midi (event.Button b)) = None
+hand_of (input.Midi event.Other) = None
+hand_of input.Tick = None
+hand_of input.PushState = None
+hand_of input.PushTransport = None
+hand_of input.FlashBank = None
 
 abbrev pub press_if : Bool → Button → Option Button
 press_if true b = Some b
@@ -70,6 +70,6 @@ abbrev pub bank_by : List ℕ → ℕ → Option Button → ℕ
 bank_by p bank (Some b) = bank_after p bank b.note
 bank_by p bank None = bank
 
-abbrev pub adds_by : List ℕ → Current → Lamps → Option Button → List ℕ → List ℕ
-adds_by p here l (Some b) ts = added_of p here l b.note ts
-adds_by p here l None ts = []
+abbrev pub adds_by : Current → Lamps → Option Button → List ℕ → List ℕ
+adds_by here l (Some b) ts = added_of here l b.note ts
+adds_by here l None ts = []

@@ -1,300 +1,159 @@
 // The events that ask or send, over groups of the session.
-ghost use Rattle.std.specs.Prelude.{◌≡◌, true, false, ◌+◌, ◌≤◌, ◌<◌, eqb, length, take};
+ghost use Rattle.std.specs.Prelude.{◌≡◌, true, false, ◌+◌, ◌≤◌, ◌<◌, eqb, length};
 ghost use Rattle.base.specs.Keyed.{no_twice};
-ghost use Rattle.profile.specs.Profile.{verdict, bank_count};
+ghost use Rattle.profile.specs.Profile.{bank_count};
 ghost use Rattle.drivers.specs.Shown.{shown};
-ghost use Rattle.session.specs.Session.{hushed_up_to, targets_of};
-ghost use Rattle.event.specs.declared.Input.TheVariants as input;
-ghost use Rattle.definition.specs.Step.{act, on_midi};
-ghost use Rattle.surface.specs.Home.{has_note};
-ghost use Rattle.bridge.specs.Presses.{bank_after, added_of};
+ghost use Rattle.session.specs.Session.{seen_silenced, targets_of};
+ghost use Rattle.surface.specs.Note.{has_note};
+ghost use Rattle.after.specs.After.{KnownIf};
 ghost use Rattle.bridge.specs.Which.{press_in, runs, bank_by, adds_by};
-ghost use Rattle.bridge.specs.Acts.{Leaves, pressing, Runs, RunsStill, Pushes, Ticks, RunsAny};
+ghost use Rattle.bridge.specs.Acts.{pressing, Runs, Ticks, RunsPanel, RunsAny};
 
-use crate::buttons;
+use crate::{buttons, which};
 use after::Left;
 use drivers::Io;
 use event::{Input, Timed};
-use protocol::{Button, Event};
-use rig::Current;
-use session::Lamps;
+use protocol::Button;
+use rig::{Accepted, Current};
+use session::{Lamps, Moves, Silenced};
+use surface::Panel;
 
-fn still(io: Io, here: Current, lamps: Lamps, hushed: usize) -> Left
-    ensures { result ≡ record { io = io; bank = here.bank; here = here; changed = false; lamps = lamps; hushed = hushed; moved = false; saved = false } }
+// Lamps and levels apart, nothing changes.
+fn still(bank: u8) -> Left
+    ensures { result ≡ record { bank = bank; strips = None; moved = false; saved = false } }
 {
     Left {
-        io: io,
-        bank: here.bank,
-        here: here,
-        changed: false,
-        lamps: lamps,
-        hushed: hushed,
+        bank,
+        strips: None,
         moved: false,
         saved: false,
     }
 }
 
 fn on_button(
-    answers: &[u8],
-    calls: &mut [u8; 5392],
-    messages: &mut [u8; 306],
-    io: Io,
-    profile: &[u8],
-    here: Current,
-    there: Current,
-    lamps: Lamps,
-    targets: &mut [u16; 256],
-    levels: &mut [f64; 256],
-    hushed: usize,
-    home: Option<f64>,
+    io: &mut Io<'_>,
+    here: &Accepted<'_>,
+    there: &Current<'_>,
+    lamps: &mut Lamps,
+    silenced: &mut Silenced,
+    moves: &Moves,
     time: f64,
     b: Button,
 ) -> Left
-    requires profile_value { verdict profile.now ≡ 0 }
-    requires count_bound { here.strips.count ≤ 8 }
-    requires count_bound_2 { there.strips.count ≤ 8 }
-    requires hushed_bound { hushed ≤ 256 }
-    requires flash_value { has_note lamps.flash ≡ true }
-    requires bank_bound { here.bank < bank_count profile.now }
-    requires bank_value { there.bank ≡ bank_after profile.now here.bank b.note }
-    requires levels_value { no_twice eqb (targets_of (hushed_up_to hushed targets.old levels.old)) ≡ true }
-    requires levels_len_bound { length (hushed_up_to hushed targets.old levels.old) + length (added_of profile.now here lamps b.note (targets_of (hushed_up_to hushed targets.old levels.old))) ≤ 256 }
-    ensures runs { Runs (pressing b.note) profile.now here there lamps (hushed_up_to hushed targets.old levels.old) home time (shown answers.now io calls.old messages.old) result (hushed_up_to result.hushed targets.new levels.new) (shown answers.now result.io calls.new messages.new) }
-    ensures leaves { Leaves here result }
+    requires profile_value { there.now.profile.now ≡ here.now.here.profile.now }
+    requires bank_bound { here.now.here.bank < bank_count here.now.here.profile.now }
+    requires bank_value { there.now.bank ≡ bank_by here.now.here.profile.now here.now.here.bank (Some b) }
+    requires flash_value { has_note lamps.old.flash ≡ true }
+    requires silenced_bound { silenced.old.count ≤ 256 }
+    requires levels_value { no_twice eqb (targets_of (seen_silenced silenced.old)) ≡ true }
+    requires levels_len_bound { length (seen_silenced silenced.old) + length (adds_by here.now.here lamps.old (Some b) (targets_of (seen_silenced silenced.old))) ≤ 256 }
+    ensures runs { Runs (pressing b.note) here.now.here there.now lamps.old (seen_silenced silenced.old) moves.now time (shown io.old) result lamps.new (seen_silenced silenced.new) (shown io.new) }
+    ensures known_if { KnownIf result.strips }
+    ensures silenced_bound_2 { silenced.new.count ≤ 256 }
 {
-    let p = buttons::button(
-        answers, calls, messages, io, profile, here, there, lamps, targets, levels, hushed, home,
-        time, b,
-    );
-    let u = p.io;
-    let l = p.lamps;
+    let pressed = buttons::button(io, here, there, lamps, silenced, moves, time, b);
     Left {
-        io: u,
-        bank: p.bank,
-        here: here,
-        changed: false,
-        lamps: l,
-        hushed: p.hushed,
-        moved: p.moved,
-        saved: p.saved,
-    }
-}
-
-// Of MIDI only a pressed button comes here: a fader and an encoder have ways of their own.
-fn on_midi(
-    answers: &[u8],
-    calls: &mut [u8; 5392],
-    messages: &mut [u8; 306],
-    io: Io,
-    profile: &[u8],
-    here: Current,
-    there: Current,
-    lamps: Lamps,
-    targets: &mut [u16; 256],
-    levels: &mut [f64; 256],
-    hushed: usize,
-    home: Option<f64>,
-    time: f64,
-    event: Event,
-) -> Left
-    requires profile_value { verdict profile.now ≡ 0 }
-    requires count_bound { here.strips.count ≤ 8 }
-    requires count_bound_2 { there.strips.count ≤ 8 }
-    requires hushed_bound { hushed ≤ 256 }
-    requires flash_value { has_note lamps.flash ≡ true }
-    requires bank_bound { here.bank < bank_count profile.now }
-    requires event_value { runs (input.Midi event) ≡ true }
-    requires bank_value { there.bank ≡ bank_by profile.now here.bank (press_in (input.Midi event)) }
-    requires levels_value { no_twice eqb (targets_of (hushed_up_to hushed targets.old levels.old)) ≡ true }
-    requires levels_len_bound { length (hushed_up_to hushed targets.old levels.old) + length (adds_by profile.now here lamps (press_in (input.Midi event)) (targets_of (hushed_up_to hushed targets.old levels.old))) ≤ 256 }
-    ensures runs { Runs (on_midi event) profile.now here there lamps (hushed_up_to hushed targets.old levels.old) home time (shown answers.now io calls.old messages.old) result (hushed_up_to result.hushed targets.new levels.new) (shown answers.now result.io calls.new messages.new) }
-    ensures leaves { Leaves here result }
-{
-    match event {
-        Event::Button(b) => on_button(
-            answers, calls, messages, io, profile, here, there, lamps, targets, levels, hushed,
-            home, time, b,
-        ),
-        Event::Fader {
-            channel: _,
-            value: _,
-        } => still(io, here, lamps, hushed),
-        Event::Encoder {
-            channel: _,
-            delta: _,
-        } => still(io, here, lamps, hushed),
-        Event::Other => still(io, here, lamps, hushed),
+        bank: pressed.bank,
+        strips: None,
+        moved: pressed.moved,
+        saved: pressed.saved,
     }
 }
 
 // What is due behind the drain: a live bank's faders, and the phases of a flash.
-fn on_tick(
-    answers: &[u8],
-    calls: &mut [u8; 5392],
-    messages: &mut [u8; 306],
-    io: Io,
-    profile: &[u8],
-    here: Current,
-    due: bool,
-    lamps: Lamps,
-    targets: &[u16; 256],
-    hushed: usize,
-    home: Option<f64>,
-    time: f64,
-) -> Left
-    requires profile_value { verdict profile.now ≡ 0 }
-    requires count_bound { here.strips.count ≤ 8 }
-    requires hushed_bound { hushed ≤ 256 }
-    requires flash_value { has_note lamps.flash ≡ true }
-    ensures ticks { Ticks profile.now here lamps (take hushed targets.now) home due time (shown answers.now io calls.old messages.old) result (shown answers.now result.io calls.new messages.new) }
-    ensures hushed_value { result.hushed ≡ hushed }
-    ensures leaves { Leaves here result }
+fn on_tick(io: &mut Io<'_>, here: &Accepted<'_>, panel: &mut Panel<'_>, due: bool) -> Left
+    ensures ticks { Ticks here.now.here panel.old panel.new due (shown io.old) result (shown io.new) }
+    ensures known_if { KnownIf result.strips }
 {
-    let r = live::refresh(
-        answers, calls, messages, io, profile, here, lamps, targets, hushed, due,
-    );
-    let v = r.io;
-    let there = r.here;
-    let f = surface::flash::tick_flash(
-        answers, calls, messages, v, profile, there, lamps, targets, hushed, home, time,
-    );
-    let w = f.io;
-    let l = f.lamps;
+    let bank = here.here.bank;
+    let strips = live::refresh(io, here, &panel.lamps, panel.hushed, due);
+    match &strips {
+        Some(changed) => {
+            let there = Current {
+                profile: here.here.profile,
+                bank,
+                strips: changed,
+            };
+            surface::flash::tick_flash(io, &there, panel);
+        }
+        None => surface::flash::tick_flash(io, &here.here, panel),
+    }
     Left {
-        io: w,
-        bank: here.bank,
-        here: there,
-        changed: r.changed,
-        lamps: l,
-        hushed: hushed,
+        bank,
+        strips,
         moved: false,
         saved: false,
     }
 }
 
-fn on_flash_bank(
-    answers: &[u8],
-    calls: &mut [u8; 5392],
-    messages: &mut [u8; 306],
-    io: Io,
-    profile: &[u8],
-    here: Current,
-    lamps: Lamps,
-    targets: &[u16; 256],
-    hushed: usize,
-    home: Option<f64>,
-    time: f64,
-) -> Left
-    requires count_bound { here.strips.count ≤ 8 }
-    requires hushed_bound { hushed ≤ 256 }
-    requires flash_value { has_note lamps.flash ≡ true }
-    ensures runs_still { RunsStill (act input.FlashBank) profile.now here lamps (take hushed targets.now) home time (shown answers.now io calls.old messages.old) result (shown answers.now result.io calls.new messages.new) }
-    ensures hushed_value { result.hushed ≡ hushed }
-    ensures leaves { Leaves here result }
-{
-    let f = banks::flash_bank(
-        answers, calls, messages, io, profile, here, lamps, targets, hushed, home, time,
-    );
-    let u = f.io;
-    let l = f.lamps;
-    still(u, here, l, hushed)
-}
-
-fn on_push_state(
-    answers: &[u8],
-    calls: &mut [u8; 5392],
-    messages: &mut [u8; 306],
-    io: Io,
-    profile: &[u8],
-    here: Current,
-    lamps: Lamps,
-    targets: &[u16; 256],
-    hushed: usize,
-) -> Left
-    requires count_bound { here.strips.count ≤ 8 }
-    requires hushed_bound { hushed ≤ 256 }
-    ensures pushes { Pushes (act input.PushState) profile.now here lamps (take hushed targets.now) (shown answers.now io calls.old messages.old) result (shown answers.now result.io calls.new messages.new) }
-    ensures hushed_value { result.hushed ≡ hushed }
-    ensures leaves { Leaves here result }
-{
-    let u = surface::lamps::push_state(
-        answers, calls, messages, io, profile, here, lamps, targets, hushed,
-    );
-    still(u, here, lamps, hushed)
-}
-
-fn on_push_transport(
-    answers: &[u8],
-    calls: &mut [u8; 5392],
-    messages: &mut [u8; 306],
-    io: Io,
-    profile: &[u8],
-    here: Current,
-    lamps: Lamps,
-    targets: &[u16; 256],
-    hushed: usize,
-) -> Left
-    requires profile_value { verdict profile.now ≡ 0 }
-    requires count_bound { here.strips.count ≤ 8 }
-    requires hushed_bound { hushed ≤ 256 }
-    ensures pushes { Pushes (act input.PushTransport) profile.now here lamps (take hushed targets.now) (shown answers.now io calls.old messages.old) result (shown answers.now result.io calls.new messages.new) }
-    ensures hushed_value { result.hushed ≡ hushed }
-    ensures leaves { Leaves here result }
-{
-    let u = transport::push_transport(answers, calls, messages, io, profile, here.bank);
-    still(u, here, lamps, hushed)
-}
-
-// An event that may ask or send, other than a hand's. `there` is the bank that is current after it, and home is of that bank.
-pub fn run(
-    answers: &[u8],
-    calls: &mut [u8; 5392],
-    messages: &mut [u8; 306],
-    io: Io,
-    profile: &[u8],
-    here: Current,
-    there: Current,
+// An event that may ask or send, other than a hand's and a press.
+fn on_panel(
+    io: &mut Io<'_>,
+    here: &Accepted<'_>,
+    panel: &mut Panel<'_>,
     due: bool,
-    lamps: Lamps,
-    targets: &mut [u16; 256],
-    levels: &mut [f64; 256],
-    hushed: usize,
-    home: Option<f64>,
+    what: Input,
+) -> Left
+    requires what_value { runs what ≡ true }
+    requires press_value { press_in what ≡ None }
+    ensures runs { RunsPanel what here.now.here panel.old panel.new due (shown io.old) result (shown io.new) }
+    ensures known_if { KnownIf result.strips }
+{
+    let bank = here.here.bank;
+    match what {
+        // Of MIDI only a pressed button asks or sends.
+        Input::Midi(_) => still(bank),
+        Input::Tick => on_tick(io, here, panel, due),
+        Input::PushState => {
+            surface::lamps::push_state(io, &here.here, &panel.lamps, panel.hushed);
+            still(bank)
+        }
+        Input::PushTransport => {
+            transport::push_transport(io, here.here.profile, bank);
+            still(bank)
+        }
+        Input::FlashBank => {
+            banks::flash_bank(io, &here.here, panel);
+            still(bank)
+        }
+    }
+}
+
+// An event that may ask or send, other than a hand's. `there` is the bank that is current after it.
+pub fn run(
+    io: &mut Io<'_>,
+    here: &Accepted<'_>,
+    there: &Current<'_>,
+    due: bool,
+    lamps: &mut Lamps,
+    silenced: &mut Silenced,
+    moves: &Moves,
     e: Timed,
 ) -> Left
-    requires profile_value { verdict profile.now ≡ 0 }
-    requires count_bound { here.strips.count ≤ 8 }
-    requires count_bound_2 { there.strips.count ≤ 8 }
-    requires hushed_bound { hushed ≤ 256 }
-    requires flash_value { has_note lamps.flash ≡ true }
-    requires bank_bound { here.bank < bank_count profile.now }
+    requires profile_value { there.now.profile.now ≡ here.now.here.profile.now }
+    requires bank_bound { here.now.here.bank < bank_count here.now.here.profile.now }
     requires what_value { runs e.what ≡ true }
-    requires bank_value { there.bank ≡ bank_by profile.now here.bank (press_in e.what) }
-    requires levels_value { no_twice eqb (targets_of (hushed_up_to hushed targets.old levels.old)) ≡ true }
-    requires levels_len_bound { length (hushed_up_to hushed targets.old levels.old) + length (adds_by profile.now here lamps (press_in e.what) (targets_of (hushed_up_to hushed targets.old levels.old))) ≤ 256 }
-    ensures runs_any { RunsAny e.what profile.now here there lamps (hushed_up_to hushed targets.old levels.old) home due e.time (shown answers.now io calls.old messages.old) result (hushed_up_to result.hushed targets.new levels.new) (shown answers.now result.io calls.new messages.new) }
-    ensures leaves { Leaves here result }
+    requires bank_value { there.now.bank ≡ bank_by here.now.here.profile.now here.now.here.bank (press_in e.what) }
+    requires flash_value { has_note lamps.old.flash ≡ true }
+    requires silenced_bound { silenced.old.count ≤ 256 }
+    requires levels_value { no_twice eqb (targets_of (seen_silenced silenced.old)) ≡ true }
+    requires levels_len_bound { length (seen_silenced silenced.old) + length (adds_by here.now.here lamps.old (press_in e.what) (targets_of (seen_silenced silenced.old))) ≤ 256 }
+    ensures runs_any { RunsAny e.what here.now.here there.now lamps.old (seen_silenced silenced.old) moves.now due e.time (shown io.old) result lamps.new (seen_silenced silenced.new) (shown io.new) }
+    ensures known_if { KnownIf result.strips }
+    ensures silenced_bound_2 { silenced.new.count ≤ 256 }
 {
-    let time = e.time;
-    let what = e.what;
-    // Lent as a slice, the levels are known to have all their places: each of the targets silenced has one.
-    let ls: &[f64] = levels;
-    match what {
-        Input::Midi(m) => on_midi(
-            answers, calls, messages, io, profile, here, there, lamps, targets, levels, hushed,
-            home, time, m,
-        ),
-        Input::Tick => on_tick(
-            answers, calls, messages, io, profile, here, due, lamps, targets, hushed, home, time,
-        ),
-        Input::PushState => on_push_state(
-            answers, calls, messages, io, profile, here, lamps, targets, hushed,
-        ),
-        Input::PushTransport => on_push_transport(
-            answers, calls, messages, io, profile, here, lamps, targets, hushed,
-        ),
-        Input::FlashBank => on_flash_bank(
-            answers, calls, messages, io, profile, here, lamps, targets, hushed, home, time,
-        ),
+    match which::press_of(e.what) {
+        Some(b) => on_button(io, here, there, lamps, silenced, moves, e.time, b),
+        None => {
+            let mut panel = Panel {
+                lamps: *lamps,
+                hushed: silenced.targets(),
+                moves,
+                time: e.time,
+            };
+            let left = on_panel(io, here, &mut panel, due, e.what);
+            *lamps = panel.lamps;
+            left
+        }
     }
 }

@@ -7,7 +7,8 @@ ghost use Rattle.profile.specs.Profile.{verdict};
 ghost use Rattle.session.specs.Session.{fresh_session};
 ghost use Rattle.state.specs.Saved.{restoring, saving, saved_to};
 ghost use Rattle.definition.specs.Whole.{whole};
-ghost use Rattle.host.specs.Report.{no_call, undone_by, report_of, Reports};
+ghost use Rattle.delivery.specs.Delivery.{told};
+ghost use Rattle.host.specs.Report.{undone_by, report_of, Reports};
 
 use delivery::Outcome;
 use drivers::Call;
@@ -28,63 +29,55 @@ pub struct Report {
     pub call: Call,
 }
 
-fn no_call() -> Call
-    ensures { result ≡ no_call }
-{
-    Call {
-        kind: 0,
-        driver: 0,
-        name: 0,
-        argument: 0,
-        level: 0,
-    }
-}
-
 // An event that did not end: all counts are 0.
 fn undone(kind: u8, number: u8, call: Call) -> Report
     ensures { result ≡ undone_by kind number call }
 {
     Report {
-        kind: kind,
-        number: number,
+        kind,
+        number,
         saved: false,
         messages: 0,
         calls: 0,
         used: 0,
-        call: call,
+        call,
     }
 }
 
-fn numbers(o: Outcome) -> Report
-    ensures { result ≡ report_of o }
-{
-    match o {
-        Outcome::Done {
-            messages,
-            calls,
-            used,
-            saved,
-        } => {
-            let none = no_call();
-            Report {
+impl From<Outcome> for Report {
+    ghost from_gives = { λ o r. r ≡ report_of (told o) };
+
+    fn from(outcome: Outcome) -> Report {
+        let none = Call {
+            kind: 0,
+            driver: 0,
+            name: 0,
+            argument: 0,
+            level: 0,
+        };
+        match outcome {
+            Outcome::Done {
+                messages,
+                calls,
+                used,
+                saved,
+            } => Report {
                 kind: 0,
                 number: 0,
-                saved: saved,
-                messages: messages,
-                calls: calls,
-                used: used,
+                saved,
+                messages,
+                calls,
+                used,
                 call: none,
-            }
+            },
+            Outcome::Refused(why) => undone(1, why.number(), none),
+            Outcome::Waiting(call) => undone(2, 0, call),
         }
-        Outcome::Refused(n) => {
-            let none = no_call();
-            undone(1, n, none)
-        }
-        Outcome::Waiting(c) => undone(2, 0, c),
     }
 }
 
-// One event. A refused or waiting one leaves the session and all lent memory as they were.
+// One event. A refused or waiting one leaves the session and all lent memory as they were. By document 01 it calls the core, which takes the session by value
+// and hands it on.
 pub fn zelwydro_on_event(
     session: &mut Session,
     profile: &[u8],
@@ -95,11 +88,11 @@ pub fn zelwydro_on_event(
 ) -> Report
     ensures { Reports (whole profile.now session.old event.now answers.now (length messages.old) (length calls.old)) profile.now session.old messages.old calls.old result session.new messages.new calls.new }
 {
-    let r = bridge::step(*session, profile, event, answers, messages, calls);
-    if r.changed {
-        *session = r.session;
+    let stepped = bridge::step(*session, profile, event, answers, messages, calls);
+    if stepped.changed {
+        *session = stepped.session;
     }
-    numbers(r.outcome)
+    Report::from(stepped.outcome)
 }
 
 // A session that has seen nothing.
@@ -120,7 +113,7 @@ pub fn zelwydro_examine(profile: &[u8]) -> u8
 pub fn zelwydro_restore(session: Session, profile: &[u8], saved: &[u8]) -> Restored
     ensures { result ≡ restoring profile.now saved.now session }
 {
-    state::restore(session, profile, saved)
+    Restored::handed(state::restore(session, profile, saved), session)
 }
 
 // What is to be saved after an event that says so.
@@ -128,5 +121,5 @@ pub fn zelwydro_save(session: Session, profile: &[u8], out: &mut [u8; 136]) -> S
     ensures value { result ≡ saving profile.now session }
     ensures out_after { out.new ≡ saved_to profile.now session out.old }
 {
-    state::saved_records(session, profile, out)
+    Saved::counted(state::saved_records(&session, profile, out))
 }

@@ -1,6 +1,7 @@
 #![tactic(auto)]
 
 // The archive that a program in C or Rust links: the functions of `host` under the names of the header, each with its promise again. `wrapper/` has the header.
+// The C interface asks for functions of their own: an exported name is a function's, and a library that others link exports none.
 ghost use Rattle.std.specs.Prelude.{◌≡◌, length};
 ghost use Rattle.profile.specs.Profile.{verdict};
 ghost use Rattle.session.specs.Session.{fresh_session};

@@ -3,9 +3,9 @@ use Rattle.after.proofs.after.Goals as goal
 
 pub returns : goal.returns
 returns c =
-    let with-turns = c in
-    let with-line = with-turns in
-    let with-marks = with-line in
-    let with-live = with-marks in
-    let start = with-live in
-    let x = start.args in record { lasts = lasts x.session x.at x.left x.silenced x.opened _ _ _ _ _ x.time start.requires.bank_value c.at_after-liveat.ensures with-live.live_after-live.ensures.banks_value with-marks.marks_after-marks.ensures with-line.line_after-line.ensures.result_value with-turns.turns_after-turns.ensures; keeps_places = lasts_within x.session x.at x.left x.silenced x.opened _ _ _ _ _ start.requires.count_bound_2 with-line.line_after-line.ensures.count_bound with-live.live_after-live.ensures.few_after with-turns.turns_after-turns.ensures }
+    let x = c.args in
+    let s = x.session.now in
+    record {
+      lasts = lasts s x.at x.left.now x.lamps x.silenced.now x.opened _ _ _ _ _ x.time c.at_after-session.ensures c.live_after.ensures.banks_value (rw c.is_some.ensures at c.marks_after.ensures) c.line_after.ensures.result_value c.turns_after.ensures;
+      keeps_places = lasts_within s x.at x.left.now x.lamps x.silenced.now x.opened _ _ _ _ _ c.requires.count_bound_2 c.line_after.ensures.count_bound c.live_after.ensures.few_after c.turns_after.ensures;
+    }

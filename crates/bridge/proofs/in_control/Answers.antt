@@ -1,31 +1,28 @@
--- `bridge::in_control` meets its contract. Assumes nothing.
 use native.Mathlib.Omega.{arith}
-use mathlib.Core.Path.{◌≡◌}
-use lib.ListN.{length}
-use Rattle.base.specs.KeyedLaws.{long}
+use mathlib.Core.Path.{refl, subst}
+use Rattle.after.specs.After.{Fades}
+use borrow.Author.Rules.{rules}
 use Rattle.session.specs.SessionLaws.{line_room}
 use Rattle.bridge.proofs.Fit.{bank_low, line_is, line_few, live_is}
 use Rattle.bridge.proofs.HandLaws.{in_control}
 use Rattle.bridge.proofs.in_control.Goals as goal
 
-pub current_bank-here-requires : goal.current_bank-here-requires
-current_bank-here-requires c =
-    let b = c in
-    record { bank_bound = bank_low b.args.profile.now b.args.session b.requires.session_value b.requires.profile_value; banks_value = live_is b.args.profile.now b.args.session b.requires.session_value }
+pub current-here-requires : goal.current-here-requires
+current-here-requires c =
+    let s = c.args.session.now in
+    record { bank_bound = bank_low c.args.profile.now s c.requires.session_value c.requires.profile_value; banks_value = live_is c.args.profile.now s c.requires.session_value }
 
-pub faded-t-requires : goal.faded-t-requires
-faded-t-requires c =
-    let b = c in
-    let p = b.args.profile.now in
-    let s = b.args.session in
-    record { k_bound = omega (arith, bank_low p s b.requires.session_value b.requires.profile_value, b.requires.channel_bound); count_bound = line_few p s b.requires.session_value; line_value = line_room _ b.args.channel (line_is p s b.requires.session_value) b.requires.channel_bound }
+pub faded-requires : goal.faded-requires
+faded-requires c =
+    let p = c.args.profile.now in
+    let s = c.args.session.now in
+    record { k_bound = omega (arith, c.place-k.ensures, bank_low p s c.requires.session_value c.requires.profile_value, c.requires.channel_bound); count_bound = line_few p s c.requires.session_value; line_value = line_room _ c.args.channel (line_is p s c.requires.session_value) c.requires.channel_bound }
 
 pub returns : goal.returns
 returns c answers ms cs =
-    let b = c in
-    let k = c in
-    let v = c in
-    let opened_long : length c.args.session.opened ≡ 16 = search (long, c.well_formed.0.1.1.1.1.1.1.1.1.1.1.1) in
-    in_control b.args.profile.now b.args.session b.args.channel b.args.value answers k.current_bank-here.result k.current_bank-here.ensures
-    v.in_control-verdict.result v.in_control-verdict.ensures b.requires.marks_value b.requires.profile_value b.requires.session_value opened_long b.requires.channel_bound c.nothing-o.result c.nothing-o.ensures
-    c.faded-t.result c.faded-t.ensures.fades c.faded-t.ensures.keeps_places ms cs
+    let p = c.args.profile.now in
+    let s = c.args.session.now in
+    rw c.silent.ensures
+    (in_control p s c.args.channel c.args.value answers c.current-here.result c.current-here.ensures c.in_control-verdict.result c.in_control-verdict.ensures
+    c.requires.marks_value c.requires.profile_value c.requires.session_value (search rules) c.requires.channel_bound _ refl c.faded.new.session
+    (subst (λ k. Fades s c.in_control-verdict.result k c.args.channel c.args.value s.opened c.faded.new.session) c.place-k.ensures c.faded.ensures.fades) c.faded.ensures.keeps_places ms cs)

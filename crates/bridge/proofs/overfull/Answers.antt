@@ -1,33 +1,48 @@
-use mathlib.Core.Path.{◌≡◌, ◌∙◌}
+use mathlib.Core.Path.{◌≡◌, ap, ◌∙◌}
 use native.Mathlib.Omega.{arith}
-use lib.ListN.{length, take}
-use Rattle.base.specs.KeyedLaws.{long}
+use Prim.Native.Nat.{ℕ, ◌≤◌}
+use mathlib.Core.List.{List}
+use lib.ListN.{length, take, length-take}
+use Rattle.session.specs.Session.{seen_silenced, targets_of}
+use Rattle.session.specs.declared.Silenced.{Silenced}
+use Rattle.bridge.specs.Which.{adds_by}
 use Rattle.bridge.proofs.Fit.{bank_low, live_is, silenced_few}
 use Rattle.bridge.proofs.HandLaws.{rig_is}
-use Rattle.bridge.proofs.TalkLaws.{adds_few, rig_now_lem, over_so}
+use Rattle.bridge.proofs.TalkLaws.{adds_few, rig_now_lem, targets_long, over_so}
 use Rattle.bridge.proofs.overfull.Goals as goal
 
-pub current_bank-here-requires : goal.current_bank-here-requires
-current_bank-here-requires c =
-    let b = c in
-    record { bank_bound = bank_low b.args.profile.now b.args.session b.requires.session_value b.requires.profile_value; banks_value = live_is b.args.profile.now b.args.session b.requires.session_value }
+pub current-here-requires : goal.current-here-requires
+current-here-requires c =
+    let s = c.args.session.now in
+    record { bank_bound = bank_low c.args.profile.now s c.requires.session_value c.requires.profile_value; banks_value = live_is c.args.profile.now s c.requires.session_value }
 
-pub added_by-added-requires : goal.added_by-added-requires
-added_by-added-requires c =
-    let b = c in
-    record { count_bound = c.current_bank-here.ensures.few; hushed_bound = silenced_few b.args.profile.now b.args.session b.requires.session_value }
+pub targets-hushed-requires : goal.targets-hushed-requires
+targets-hushed-requires c = silenced_few c.args.profile.now c.args.session.now c.requires.session_value
+
+-- at most as many targets as the count says
+fewer : (z : Silenced) (ts : List ℕ) → z.count ≤ 256 → ts ≡ take z.count z.targets → ts ≡ targets_of (seen_silenced z) → length (seen_silenced z) ≤ 256
+fewer z ts few kept shown =
+    let same : length ts ≡ length (seen_silenced z) = ap length shown ∙ targets_long (seen_silenced z) in
+    let short : length ts ≤ z.count = rw kept (omega (arith, length-take z.count z.targets)) in
+    omega arith
 
 pub overflow_add-result : goal.overflow_add-result
 overflow_add-result c =
-    let b = c in
-    omega (arith, silenced_few b.args.profile.now b.args.session b.requires.session_value, c.added_by-added.ensures, adds_few b.args.profile.now c.current_bank-here.result b.args.session.lamps c.press_of-press.result (take b.args.session.silenced.count b.args.session.silenced.targets))
+    let s = c.args.session.now in
+    let few = fewer s.silenced _ (silenced_few c.args.profile.now s c.requires.session_value) c.targets-hushed.ensures.kept c.targets-hushed.ensures.seen in
+    let same = ap length c.targets-hushed.ensures.seen ∙ targets_long (seen_silenced s.silenced) in
+    omega (arith, few, same, c.added_by-added.ensures, adds_few c.current-here.result s.lamps c.press_of.result c.targets-hushed.result.now)
 
 pub returns : goal.returns
 returns c =
-    let b = c in
-    let few = silenced_few b.args.profile.now b.args.session b.requires.session_value in
-    let targets_long : length c.args.session.silenced.targets ≡ 256 = search (long, c.well_formed.0.1.1.1.1.1.1.1.1.1.1.1.0) in
-    let levels_long : length c.args.session.silenced.levels ≡ 256 = search (long, c.well_formed.0.1.1.1.1.1.1.1.1.1.1.1.0) in
-    over_so b.args.profile.now b.args.session c.current_bank-here.result b.args.e.time
-    (rig_now_lem b.args.profile.now b.args.session ∙ rig_is b.args.profile.now b.args.session b.args.session.bank _ c.current_bank-here.ensures)
-    (omega (arith, few, targets_long)) (omega (arith, few, levels_long)) few b.args.e.what b.requires.what_value c.press_of-press.result c.press_of-press.ensures c.added_by-added.result c.added_by-added.ensures
+    let p = c.args.profile.now in
+    let s = c.args.session.now in
+    let few = fewer s.silenced _ (silenced_few p s c.requires.session_value) c.targets-hushed.ensures.kept c.targets-hushed.ensures.seen in
+    let same = ap length c.targets-hushed.ensures.seen ∙ targets_long (seen_silenced s.silenced) in
+    let added = c.added_by-added.ensures ∙ ap (λ l. length (adds_by c.current-here.result s.lamps c.press_of.result l)) c.targets-hushed.ensures.seen in
+    record {
+      eleven =
+          over_so p s c.current-here.result c.args.e.time (rig_now_lem p s ∙ rig_is p s s.bank _ c.current-here.ensures) few c.args.e.what
+          c.requires.what_value c.press_of.result c.press_of.ensures _ (omega (arith, same, added));
+      few = few;
+    }

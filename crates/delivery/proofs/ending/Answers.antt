@@ -1,32 +1,14 @@
-use native.Mathlib.Omega.{arith}
-use mathlib.Core.Path.{◌≡◌}
-use lib.ListN.{length}
-use Rattle.delivery.proofs.Laws.{ends-undone, ends-done}
+use Rattle.std.proofs.Common.{rules, arith}
+use Rattle.delivery.proofs.Laws.{ends_waiting, ends_stopped, ends_done}
 use Rattle.delivery.proofs.ending.Goals as goal
 
-pub returns-then-stopped : goal.returns-then-stopped
-returns-then-stopped c =
-    let s = c in
-    ends-undone s.args.io s.args.cs.now s.args.ms.now s.args.saved _ _ _ (λ z. omega arith) c.undone-o.ensures
+pub returns-in-Going : goal.returns-in-Going
+returns-in-Going c =
+    let io = c.args.io.now in
+    ends_done io c.args.saved _ _ _ _ c.in-Going.is (search rules) (search rules) c.put-in-Going.ensures.bytes c.put.ensures.copied c.put-in-Going.ensures.copied
 
-pub put_messages-requires : goal.put_messages-requires
-put_messages-requires c =
-    let s = c in
-    let z : s.args.io.stop ≡ 0 = omega arith in
-    let l : length s.args.ms.now ≡ 306 = c.put_messages-arg-1.given in
-    record { n_bound = (s.requires.has_room z).0; in_bounds = omega arith; in_bounds_2 = s.requires.in_bounds }
+pub returns-in-Waits : goal.returns-in-Waits
+returns-in-Waits c = ends_waiting _ _ _ _ _ c.in-Waits.is
 
-pub put_calls-requires : goal.put_calls-requires
-put_calls-requires c =
-    let s = c in
-    let z : s.args.io.stop ≡ 0 = omega arith in
-    let l : length s.args.cs.now ≡ 5392 = c.put_calls-arg-1.given in
-    record { n_bound = (s.requires.has_room z).1; in_bounds = omega arith; in_bounds_2 = s.requires.in_bounds_2 }
-
-pub returns : goal.returns
-returns c =
-    let s = c in
-    let z : s.args.io.stop ≡ 0 = omega arith in
-    ends-done s.args.io s.args.cs.now s.args.ms.now s.args.saved _ _ _ _ z
-    c.put_messages.ensures
-    c.put_calls.ensures
+pub returns-in-Declined : goal.returns-in-Declined
+returns-in-Declined c = ends_stopped _ _ _ _ c.in-Declined.is

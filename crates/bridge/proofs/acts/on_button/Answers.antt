@@ -1,7 +1,8 @@
-use mathlib.Core.Path.{refl}
-use Rattle.bridge.proofs.ActsLaws.{leaves-still, presses}
+use Rattle.bridge.proofs.ActsLaws.{presses}
 use Rattle.bridge.proofs.acts.on_button.Goals as goal
 
-pub returns : goal.returns
-returns c = let start = c in
-    let pressed = c.button-p in record { runs = presses _ _ _ _ _ _ _ _ start.args.b.note pressed.result _ _ _ pressed.ensures.presses; leaves = leaves-still _ _ refl refl start.requires.count_bound pressed.ensures.hushed_bound_2 }
+pub returns-clause-runs : goal.returns-clause-runs
+returns-clause-runs c =
+    let a = c.args in
+    let b = c.button-pressed in
+    presses a.here.now.here a.there.now a.lamps.now b.new.lamps _ _ a.moves.now a.time _ _ a.b.note b.result b.ensures.presses

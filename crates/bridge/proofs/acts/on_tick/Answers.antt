@@ -1,7 +1,14 @@
-use mathlib.Core.Path.{refl}
-use Rattle.bridge.proofs.ActsLaws.{leaves-again, ticks}
+use Rattle.bridge.proofs.ActsLaws.{ticks}
 use Rattle.bridge.proofs.acts.on_tick.Goals as goal
 
-pub returns : goal.returns
-returns c = let start = c in
-    let again = c.refresh-r in record { ticks = ticks _ _ _ _ _ _ _ _ _ _ again.result _ _ _ again.ensures.messages_after again.ensures.still_here c.tick_flash-f.ensures; hushed_value = refl; leaves = leaves-again _ again.result _ refl refl again.ensures.still_here start.requires.hushed_bound }
+pub returns-in-Some-clause-ticks : goal.returns-in-Some-clause-ticks
+returns-in-Some-clause-ticks c =
+    let a = c.args in
+    let b = c.tick_flash in
+    ticks a.here.now.here a.panel.now b.new.panel a.due _ _ _ _ _ c.refresh-strips.ensures.value (rw c.in-Some.is) b.ensures.value
+
+pub returns-in-None-clause-ticks : goal.returns-in-None-clause-ticks
+returns-in-None-clause-ticks c =
+    let a = c.args in
+    let b = c.tick_flash-in-None in
+    ticks a.here.now.here a.panel.now b.new.panel a.due _ _ _ _ _ c.refresh-strips.ensures.value (rw c.in-None.is) b.ensures.value

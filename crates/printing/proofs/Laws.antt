@@ -1,178 +1,168 @@
--- Text behind text, and how many digits a number of 64 bits has at most. Assumes nothing.
-use Prim.Native.Nat.{ℕ, zero, suc, ◌+◌, ◌-◌, ◌*◌, ◌/◌, ◌%◌, ◌^◌, ◌≤◌, ◌<◌}
-use mathlib.Core.Path.{◌≡◌, refl, ◌∙◌, sym, ap}
-use mathlib.Core.Logic.{◌≢◌}
-use mathlib.Core.Bool.{Bool, true, false}
-use mathlib.Core.List.{List, [], ◌∷◌, ◌++◌, append_assoc, append-nil}
-use native.Mathlib.Nat.{pow-le-pow_right, pow-suc, lt_of_lt_of_le, mod-eq_of_lt, add-zero}
-use native.Mathlib.Numerals.{add-one}
-use native.Mathlib.Omega.{arith}
-use lib.Dec.{leb, ltb, lit<, lit≤}
-use lib.ListN.{length, take, drop, get_or, set, get_or-eq_default}
-use lib.Seq.{take_all, take-suc, take-suc-set}
-use borrow.Author.Tests.{leb-true, leb-false, ltb-true, lt-ltb}
-use Rattle.base.specs.Choice.{pick}
+-- What std writes of a number is the definition's text of it, and what stands in a buffer is read of its parts in turn. Assumes nothing.
+use Rattle.std.specs.Prelude.{ℕ, zero, suc, ◌+◌, ◌-◌, ◌*◌, ◌/◌, ◌%◌, ◌^◌, ◌≤◌, ◌<◌, ◌≡◌, Bool, true, false, ◌==◌, ltb, List, [], ◌∷◌, ◌++◌, length, take, drop, get_or, replicate}
+use Rattle.std.specs.Fmt.{decimal as std_decimal, digits, digits_onto, padded_integral, char_count, format_spec}
+use Rattle.std.proofs.Common.{arith, rules, sym, ◌∙◌, length-append, length-drop, append_assoc, append-nil, get_or-take, get_or-drop, drop-drop, lt-ltb}
+use Rattle.std.proofs.Math.Path.{refl, ap}
+use native.Mathlib.Nat.{pow-suc}
+use Rattle.std.proofs.Math.Seq.{take-append_seam, drop-append_seam}
+use Rattle.std.proofs.lemmas.Fmt.{decimal_from_appends, length-decimal-le, hex_byte}
+use lib.Dec.{lit<, lit≤}
+use lib.ListN.{get_or-eq_default, length-replicate}
+use Rattle.base.specs.Words.{le64}
+use Rattle.drivers.specs.BytesLaws.{take_three}
 use Rattle.drivers.specs.declared.Call.{Call}
 use Rattle.drivers.specs.Shown.{call_at, calls_in, message_at, messages_in}
-use Rattle.drivers.specs.BytesLaws.{take_three}
-use Rattle.io.specs.Digits.{IsDigitCount, hex_digit_ascii, last_digits}
+use Rattle.io.specs.Digits.{hex_digit_ascii, last_digits}
 use Rattle.printing.specs.Ascii.{ascii}
-use Rattle.printing.specs.Text.{decimal_in, decimal, bits, hex, kind_words, kind_word, message_line, message_lines, call_line, call_lines}
+use Rattle.printing.specs.Text.{decimal_in, decimal, bits, hex, word, level, line_end, kind_words, kind_word, message_line, message_lines, call_line, call_lines}
 
--- ── text behind text ──
+-- ── numbers ──
 
--- parts of a text that were written one behind the other, behind p: the text
-pub then2 : (p a b : List ℕ) {x y : List ℕ} → x ≡ p ++ a → y ≡ x ++ b → y ≡ p ++ (a ++ b)
-then2 p a b e f = rw (f, e, append_assoc p a b)
+-- the definition's digits, of at most so many
+up_to : ℕ → ℕ → List ℕ
+up_to zero n = []
+up_to (suc k) n = decimal_in k n
 
-pub then3 : (p a b c : List ℕ) {x y z : List ℕ} → x ≡ p ++ a → y ≡ x ++ b → z ≡ y ++ c → z ≡ p ++ (a ++ (b ++ c))
-then3 p a b c e f g = rw (then2 p (a ++ b) c (then2 p a b e f) g, append_assoc a b c)
+low_digit : (n : ℕ) → n < 10 → hex_digit_ascii n ≡ 48 + n
+low_digit n l = rw (lt-ltb n 10 l)
 
-pub then4 : (p a b c d : List ℕ) {w x y z : List ℕ} → w ≡ p ++ a → x ≡ w ++ b → y ≡ x ++ c → z ≡ y ++ d → z ≡ p ++ (a ++ (b ++ (c ++ d)))
-then4 p a b c d e f g h = rw (then3 p (a ++ b) c d (then2 p a b e f) g h, append_assoc a b (c ++ d))
+up_to-one : (k n : ℕ) → n < 10 → up_to (suc k) n ≡ (48 + n) ∷ []
+unfolding up_to decimal_in
+up_to-one zero n l = let same : n % 10 ≡ n = omega arith in rw (same, low_digit n l)
+up_to-one (suc k) n l = rw (lt-ltb n 10 l)
 
-pub then5 : (p a b c d e : List ℕ) {v w x y z : List ℕ} → v ≡ p ++ a → w ≡ v ++ b → x ≡ w ++ c → y ≡ x ++ d → z ≡ y ++ e → z ≡ p ++ (a ++ (b ++ (c ++ (d ++ e))))
-then5 p a b c d e i j k l m = rw (then4 p (a ++ b) c d e (then2 p a b i j) k l m, append_assoc a b (c ++ (d ++ e)))
+up_to-more : (k n : ℕ) → 10 ≤ n → up_to (suc k) n ≡ up_to k (n / 10) ++ ((48 + n % 10) ∷ [])
+unfolding up_to decimal_in
+up_to-more zero n l = rw (low_digit (n % 10) (omega arith))
+up_to-more (suc k) n l = let no : ltb n 10 ≡ false = search (rules, l) in rw (low_digit (n % 10) (omega arith), no)
 
--- none of a text that is written in turn
-pub none_yet : (p ys : List ℕ) (at : ℕ) → take at ys ≡ p → take (at + 0) ys ≡ p ++ []
-none_yet p ys at e = rw (add-zero, append-nil) e
+pub decimal_is : (n : ℕ) → n < 2 ^ 64 → std_decimal n ≡ decimal n
+unfolding up_to
+decimal_is n l = sym (decimal_from_appends up_to (record { one = up_to-one; more = up_to-more }) 20 n l (length-decimal-le 20 n (lit< tt) (omega (arith, l)) l))
 
--- one byte behind the first
-pub a_byte : (xs : List ℕ) (at b : ℕ) → at + 1 ≤ length xs → take (at + 1) (set xs at b) ≡ take at xs ++ (b ∷ [])
-a_byte xs at b h = rw (add-one at) (take-suc-set xs at b (omega arith))
+zeros : ℕ → List ℕ
+zeros k = replicate k 48
 
--- one byte more of ws, behind p and the first i
-pub one_more : (p ws ys : List ℕ) (at i : ℕ) → at + i < length ys → i < length ws → take (at + i) ys ≡ p ++ take i ws →
-    take (at + (i + 1)) (set ys (at + i) (get_or ws i 0)) ≡ p ++ take (i + 1) ws
-one_more p ws ys at i h l e =
-    let next : at + (i + 1) ≡ suc (at + i) = omega arith in
-    let some : i + 1 ≡ suc i = omega arith in
-    rw (next, some, take-suc-set ys (at + i) (get_or ws i 0) h, take-suc ws i 0 l) (then2 p (take i ws) (get_or ws i 0 ∷ []) e refl)
+zeros_on : (k : ℕ) → zeros k ++ (48 ∷ []) ≡ 48 ∷ zeros k
+unfolding zeros
+zeros_on zero = refl
+zeros_on (suc k) = ap (λ (l : List ℕ). 48 ∷ l) (zeros_on k)
 
--- all of ws, where the first i were and i is their number
-pub all_of : (f : List ℕ → List ℕ) (g : ℕ → ℕ) (p ws ys : List ℕ) (i : ℕ) → i ≤ length ws → length ws ≤ i → take (g i) ys ≡ p ++ f (take i ws) →
-    take (g (length ws)) ys ≡ p ++ f ws
-all_of f g p ws ys i h l e =
-    let q : length ws ≡ i = omega arith in
-    let w : take i ws ≡ ws = take_all i ws l in
-    rw q (e ∙ ap (λ (k : List ℕ). p ++ f k) w)
+none_left : (k : ℕ) → last_digits 16 k 0 ≡ zeros k
+unfolding zeros
+none_left zero = refl
+none_left (suc k) = ap (λ (l : List ℕ). l ++ (48 ∷ [])) (none_left k) ∙ zeros_on k
 
--- a text ends where another number says so too
-pub at-end : (ys : List ℕ) {x : List ℕ} (r s : ℕ) → r ≡ s → take r ys ≡ x → take s ys ≡ x
-at-end ys r s q e = rw (← q) e
+-- the digits that std writes, and the zeros before them
+Filled : ℕ → ℕ → ℕ → List ℕ → Type 0
+Filled k m n acc = (z : ℕ) × (zeros z ++ digits_onto (suc m) 16 false n acc ≡ last_digits 16 (suc k) n ++ acc)
 
--- two digits are a byte's
-pub two : (p : List ℕ) (d e b : ℕ) {x y : List ℕ} → d ≡ hex_digit_ascii (b / 16) → e ≡ hex_digit_ascii (b % 16) → x ≡ p ++ (d ∷ []) → y ≡ x ++ (e ∷ []) → y ≡ p ++ hex (b ∷ [])
+filled : (k m n : ℕ) (acc : List ℕ) → n < 16 ^ suc k → k ≤ m → Filled k m n acc
+unfolding Filled zeros
+filled zero m n acc l h = let none : n / 16 ≡ 0 = omega arith in (0, rw none)
+filled (suc k) zero n acc l h = absurd (omega arith)
+filled (suc k) (suc m) n acc l h =
+    let wide : 16 ^ suc (suc k) ≡ 16 ^ suc k * 16 = pow-suc 16 (suc k) in
+    go (n / 16 == 0) refl (λ some. filled k m (n / 16) (hex_digit_ascii (n % 16) ∷ acc) (omega (arith, l, wide)) (omega arith))
+  where
+    go : (t : Bool) → (n / 16 == 0) ≡ t → ((n / 16 == 0) ≡ false → Filled k m (n / 16) (hex_digit_ascii (n % 16) ∷ acc)) → Filled (suc k) (suc m) n acc
+    go true e f =
+        let none : n / 16 ≡ 0 = search (rules, e) in
+        (suc k, rw (none, none_left (suc k)) (sym (append_assoc (zeros (suc k)) (hex_digit_ascii (n % 16) ∷ []) acc)))
+    go false e f =
+        ((f e).0, rw e ((f e).1 ∙ sym (append_assoc (last_digits 16 (suc k) (n / 16)) (hex_digit_ascii (n % 16) ∷ []) acc)))
+
+pub bits_are : (n : ℕ) → n < 2 ^ 64 → padded_integral (format_spec 32 0 4 16 (2 ^ 64 - 1)) false [] (digits 16 false n) ≡ bits n
+unfolding padded_integral char_count digits bits Filled zeros
+bits_are n l =
+    let found = filled 15 63 n [] l (lit≤ tt) in
+    let ds = digits 16 false n in
+    let long : length (last_digits 16 16 n ++ []) ≡ 16 = refl in
+    let left : 16 - length ds - 0 - 0 ≡ found.0 = omega (arith, length-append (zeros found.0) ds, ap length found.1, length-replicate {A = ℕ} found.0 48, long) in
+    rw (append-nil ds, left) (found.1 ∙ append-nil _)
+
+-- what std writes of a byte
+pub byte_is : (n : ℕ) → n < 256 → padded_integral (format_spec 32 0 4 2 (2 ^ 64 - 1)) false [] (digits 16 false n) ≡ hex_digit_ascii (n / 16) ∷ hex_digit_ascii (n % 16) ∷ []
+byte_is n l = hex_byte false n l
+
+-- one byte more
+pub hex_more : (bs : List ℕ) (i : ℕ) → i < length bs → hex (take (i + 1) bs) ≡ hex (take i bs) ++ (hex_digit_ascii (get_or bs i 0 / 16) ∷ hex_digit_ascii (get_or bs i 0 % 16) ∷ [])
 unfolding hex
-two p d e b q r f g = rw (← q, ← r) (then2 p (d ∷ []) (e ∷ []) f g)
+hex_more [] i l = absurd (omega arith)
+hex_more (b ∷ bs) zero l = refl
+hex_more (b ∷ bs) (suc i) l =
+    let next : suc i + 1 ≡ suc (i + 1) = omega arith in
+    rw next (ap (λ (t : List ℕ). hex_digit_ascii (b / 16) ∷ hex_digit_ascii (b % 16) ∷ t) (hex_more bs i (omega arith)))
 
-hex-append : (xs ys : List ℕ) → hex (xs ++ ys) ≡ hex xs ++ hex ys
-unfolding hex
-hex-append [] ys = refl
-hex-append (x ∷ xs) ys = rw (hex-append xs ys)
-
-pub byte_more : (p bs : List ℕ) (i : ℕ) {x y : List ℕ} → i < length bs → x ≡ p ++ hex (take i bs) → y ≡ x ++ hex (get_or bs i 0 ∷ []) → y ≡ p ++ hex (take (i + 1) bs)
-byte_more p bs i l e f =
-    let some : i + 1 ≡ suc i = omega arith in
-    rw (some, take-suc bs i 0 l, hex-append (take i bs) (get_or bs i 0 ∷ [])) (then2 p (hex (take i bs)) (hex (get_or bs i 0 ∷ [])) e f)
-
--- one message more, and one call more, of those that are read from a buffer
-message_lines_lem : (ms : List (List ℕ)) (m : List ℕ) → message_lines (ms ++ (m ∷ [])) ≡ message_lines ms ++ message_line m
-unfolding message_lines
-message_lines_lem [] m = append-nil (message_line m)
-message_lines_lem (x ∷ ms) m = rw (message_lines_lem ms m) (sym (append_assoc (message_line x) (message_lines ms) (message_line m)))
-
-call_lines_lem : (cs : List Call) (c : Call) → call_lines (cs ++ (c ∷ [])) ≡ call_lines cs ++ call_line c
-unfolding call_lines
-call_lines_lem [] c = append-nil (call_line c)
-call_lines_lem (x ∷ cs) c = rw (call_lines_lem cs c) (sym (append_assoc (call_line x) (call_lines cs) (call_line c)))
-
-pub message_more : (p ms : List ℕ) (i n : ℕ) {x y : List ℕ} → 3 * i + 3 ≤ length ms → n ≡ 3 → x ≡ p ++ message_lines (messages_in i ms) →
-    y ≡ x ++ message_line (take n (drop (3 * i) ms)) → y ≡ p ++ message_lines (messages_in (i + 1) ms)
-unfolding messages_in
-message_more p ms i n {x = x} l q e f =
-    let some : i + 1 ≡ suc i = omega arith in
-    let three : take n (drop (3 * i) ms) ≡ message_at ms (3 * i) = ap (λ (k : ℕ). take k (drop (3 * i) ms)) q ∙ sym (take_three ms (3 * i) l) in
-    rw (some, message_lines_lem (messages_in i ms) (message_at ms (3 * i)))
-    (then2 p (message_lines (messages_in i ms)) (message_line (message_at ms (3 * i))) e (f ∙ ap (λ (m : List ℕ). x ++ message_line m) three))
-
-pub call-more : (p cs : List ℕ) (i : ℕ) (c : Call) {x y : List ℕ} → c ≡ call_at cs (16 * i) → x ≡ p ++ call_lines (calls_in i cs) → y ≡ x ++ call_line c →
-    y ≡ p ++ call_lines (calls_in (i + 1) cs)
-unfolding calls_in
-call-more p cs i c {x = x} q e f =
-    let some : i + 1 ≡ suc i = omega arith in
-    rw (some, call_lines_lem (calls_in i cs) (call_at cs (16 * i)))
-    (then2 p (call_lines (calls_in i cs)) (call_line (call_at cs (16 * i))) e (f ∙ ap (λ (k : Call). x ++ call_line k) q))
-
-past : (n k : ℕ) → n ≤ k → k ≢ n → suc n ≤ k
-past n k l h = omega arith
+-- ── messages and calls ──
 
 -- a kind that is none of those before `live`
-pub live_kind : (k : ℕ) → k ≢ 0 → k ≢ 1 → k ≢ 2 → k ≢ 3 → k ≢ 4 → k ≢ 5 → k ≢ 6 → k ≢ 7 → k ≢ 8 → kind_word k ≡ ascii "live"
+pub live_kind : (k : ℕ) → 9 ≤ k → kind_word k ≡ ascii "live"
 unfolding kind_word
-live_kind k h0 h1 h2 h3 h4 h5 h6 h7 h8 =
-    let l = past 8 k (past 7 k (past 6 k (past 5 k (past 4 k (past 3 k (past 2 k (past 1 k (past 0 k (omega arith) h0) h1) h2) h3) h4) h5) h6) h7) h8 in
-    get_or-eq_default kind_words (ascii "live") {n = k} l
+live_kind k l = get_or-eq_default kind_words (ascii "live") {n = k} l
 
--- ── digits ──
+-- a call's line is its words one behind the other
+pub call_joined : (c : Call) → ascii "call " ++ (kind_word c.kind ++ (word c.driver ++ (word c.name ++ (word c.argument ++ (level c.level ++ line_end))))) ≡ call_line c
+unfolding call_line
+call_joined c =
+    ap (λ (l : List ℕ). ascii "call " ++ (kind_word c.kind ++ l))
+    (ap (λ (l : List ℕ). word c.driver ++ l) (sym (append_assoc (word c.name) (word c.argument) (level c.level ++ line_end)))
+    ∙ sym (append_assoc (word c.driver) (word c.name ++ word c.argument) (level c.level ++ line_end)))
 
--- a number below a power of the base has no more digits than that
-few : (b top n k : ℕ) → 0 < b → n < b ^ top → (top < k → b ^ (k - 1) ≤ n) → k ≤ top
-few b top n k p l m = go (leb k top) refl
-  where
-    go : (t : Bool) → leb k top ≡ t → k ≤ top
-    go true e = leb-true k top e
-    go false e =
-        let more : top < k = leb-false k top e in
-        let grown : b ^ top ≤ b ^ (k - 1) = pow-le-pow_right p (omega arith) in absurd (omega (arith, grown, m more))
+message_after : (ms : List (List ℕ)) (m : List ℕ) → message_lines (ms ++ (m ∷ [])) ≡ message_lines ms ++ message_line m
+unfolding message_lines
+message_after [] m = append-nil (message_line m)
+message_after (n ∷ ms) m = ap (λ (l : List ℕ). message_line n ++ l) (message_after ms m) ∙ sym (append_assoc (message_line n) (message_lines ms) (message_line m))
 
-pub decimal-most : (n k : ℕ) → n < 2 ^ 64 → IsDigitCount 10 1 n k → k ≤ 20
-decimal-most n k l f = few 10 20 n k (lit< tt) (lt_of_lt_of_le l (lit≤ tt)) (λ h. f.2 (omega arith))
+call_after : (cs : List Call) (c : Call) → call_lines (cs ++ (c ∷ [])) ≡ call_lines cs ++ call_line c
+unfolding call_lines
+call_after [] c = append-nil (call_line c)
+call_after (d ∷ cs) c = ap (λ (l : List ℕ). call_line d ++ l) (call_after cs c) ∙ sym (append_assoc (call_line d) (call_lines cs) (call_line c))
 
-pub hex-most : (n k : ℕ) → n < 2 ^ 64 → IsDigitCount 16 16 n k → k ≤ 16
-hex-most n k l f = few 16 16 n k (lit< tt) (lt_of_lt_of_le l (lit≤ tt)) f.2
+-- a buffer bs is read from place m on: x is the next part, t what follows it
+module _ (bs x t : List ℕ) (m k : ℕ) (e : drop m bs ≡ x ++ t) (l : length x ≡ k) where
+  part_is : take k (drop m bs) ≡ x
+  part_is = rw (e, ← l) (take-append_seam x t)
 
--- a number below ten has one digit
-one_place : (n k : ℕ) → IsDigitCount 10 1 n k → n < 10 → k ≡ 1
-one_place n k f l = go (leb k 1) refl
-  where
-    go : (t : Bool) → leb k 1 ≡ t → k ≡ 1
-    go true e = omega (arith, leb-true k 1 e, f.0)
-    go false e =
-        let more : 1 < k = leb-false k 1 e in
-        let ten : 0 < 10 = lit< tt in
-        let grown : 10 ^ 1 ≤ 10 ^ (k - 1) = pow-le-pow_right ten {i = 1} {j = k - 1} (omega arith) in
-        absurd (omega (arith, grown, f.2 more))
+  pub rest_is : (j : ℕ) → m + k ≡ j → t ≡ drop j bs
+  rest_is j f = rw (← f, ← drop-drop k m bs, e, ← l) (sym (drop-append_seam x t))
 
--- any other has one more than its tenth
-fewer : (n j : ℕ) → IsDigitCount 10 1 n (suc (suc j)) → IsDigitCount 10 1 (n / 10) (suc j)
-fewer n j f =
-    let wide : 10 ^ suc (suc j) ≡ 10 ^ suc j * 10 = pow-suc 10 (suc j) in
-    let tall : 10 ^ suc j ≡ 10 ^ j * 10 = pow-suc 10 j in
-    let less : suc (suc j) - 1 ≡ suc j = omega arith in
-    let least : 10 ^ suc j ≤ n = rw (← less) (f.2 (omega arith)) in
-    let same : suc j - 1 ≡ j = omega arith in
-    (omega arith, omega (arith, f.1, wide), λ h. rw same (omega (arith, least, tall)))
+  pub within : m ≤ length bs → m + k ≤ length bs
+  within h = omega (arith, length-drop m bs, ap length e, length-append x t)
 
-decimal_in_lem : (more n k : ℕ) → k ≤ suc more → IsDigitCount 10 1 n k → last_digits 10 k n ≡ decimal_in more n
-unfolding decimal_in
-decimal_in_lem more n zero h f = absurd (omega (arith, f.0))
-decimal_in_lem zero n (suc zero) h f = refl
-decimal_in_lem zero n (suc (suc j)) h f = absurd (omega arith)
-decimal_in_lem (suc more) n (suc zero) h f =
-    let l : n < 10 = f.1 in
-    ap (λ (d : ℕ). hex_digit_ascii d ∷ []) (mod-eq_of_lt l) ∙ ap (λ (t : Bool). pick t (hex_digit_ascii n ∷ []) (decimal_in more (n / 10) ++ (hex_digit_ascii (n % 10) ∷ []))) (sym (lt-ltb n 10 l))
-decimal_in_lem (suc more) n (suc (suc j)) h f = go (ltb n 10) refl (decimal_in_lem more (n / 10) (suc j) (omega arith) (fewer n j f))
-  where
-    go : (t : Bool) → ltb n 10 ≡ t → last_digits 10 (suc j) (n / 10) ≡ decimal_in more (n / 10) → last_digits 10 (suc (suc j)) n ≡ decimal_in (suc more) n
-    go true e q = absurd (omega (arith, one_place n (suc (suc j)) f (ltb-true n 10 e)))
-    go false e q = rw (e, q)
+pub message_more : (bs x t : List ℕ) (n : ℕ) → 3 * n ≤ length bs → drop (3 * n) bs ≡ x ++ t → length x ≡ 3 →
+    message_lines (messages_in n bs) ++ message_line x ≡ message_lines (messages_in (suc n) bs)
+unfolding messages_in
+message_more bs x t n h e l =
+    rw (message_after (messages_in n bs) (message_at bs (3 * n)), take_three bs (3 * n) (within bs x t (3 * n) 3 e l h), part_is bs x t (3 * n) 3 e l) refl
 
-pub decimal-is : (n k : ℕ) → n < 2 ^ 64 → IsDigitCount 10 1 n k → last_digits 10 k n ≡ decimal n
-decimal-is n k l f = decimal_in_lem 19 n k (decimal-most n k l f) f
+at_of : (bs : List ℕ) (a k j : ℕ) → k < 16 → a + k ≡ j → get_or (take 16 (drop a bs)) k 0 ≡ get_or bs j 0
+at_of bs a k j l e = rw (get_or-take 16 (drop a bs) k 0 l, get_or-drop a bs k 0, e) refl
 
-pub bits_are : (n k : ℕ) → n < 2 ^ 64 → IsDigitCount 16 16 n k → last_digits 16 k n ≡ bits n
-unfolding bits
-bits_are n k l f =
-    let q : k ≡ 16 = omega (arith, hex-most n k l f, f.0) in rw q
+call_of : (bs : List ℕ) (a : ℕ) → call_at (take 16 (drop a bs)) 0 ≡ call_at bs a
+unfolding le64
+call_of bs a =
+    rw (
+      at_of bs a 0 a (lit< tt) (omega arith),
+      at_of bs a 1 (a + 1) (lit< tt) refl,
+      at_of bs a 2 (a + 2) (lit< tt) refl,
+      at_of bs a 3 (a + 2 + 1) (lit< tt) (omega arith),
+      at_of bs a 4 (a + 4) (lit< tt) refl,
+      at_of bs a 5 (a + 4 + 1) (lit< tt) (omega arith),
+      at_of bs a 6 (a + 4 + 2) (lit< tt) (omega arith),
+      at_of bs a 7 (a + 4 + 2 + 1) (lit< tt) (omega arith),
+      at_of bs a 8 (a + 8) (lit< tt) refl,
+      at_of bs a 9 (a + 8 + 1) (lit< tt) (omega arith),
+      at_of bs a 10 (a + 8 + 2) (lit< tt) (omega arith),
+      at_of bs a 11 (a + 8 + 2 + 1) (lit< tt) (omega arith),
+      at_of bs a 12 (a + 8 + 4) (lit< tt) (omega arith),
+      at_of bs a 13 (a + 8 + 4 + 1) (lit< tt) (omega arith),
+      at_of bs a 14 (a + 8 + 4 + 2) (lit< tt) (omega arith),
+      at_of bs a 15 (a + 8 + 4 + 2 + 1) (lit< tt) (omega arith),
+    )
+
+pub call_more : (bs x t : List ℕ) (n : ℕ) → drop (16 * n) bs ≡ x ++ t → length x ≡ 16 →
+    call_lines (calls_in n bs) ++ call_line (call_at x 0) ≡ call_lines (calls_in (suc n) bs)
+unfolding calls_in
+call_more bs x t n e l =
+    rw (call_after (calls_in n bs) (call_at bs (16 * n)), ← part_is bs x t (16 * n) 16 e l, call_of bs (16 * n)) refl

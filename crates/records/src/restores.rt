@@ -1,57 +1,62 @@
 // A restore, what the session has of it, and the records that follow from the session.
-use crate::text;
+use printing::Hex;
 use session::{Lamps, Session};
+use std::fmt;
 
-// A bank's position, if it is known.
-fn say_position(b: usize, known: bool, scene: u32) {
-    if known {
-        text::say(b" ");
-        text::number(b as u64);
-        text::say(b":");
-        text::number(scene as u64);
+// The position of each bank of which it is known.
+#[derive(Clone, Copy)]
+struct Positions(Lamps);
+
+impl fmt::Display for Positions {
+    fn fmt<W: fmt::Write>(&self, f: &mut fmt::Formatter<W>) -> fmt::Result {
+        let lamps = &self.0;
+        for (bank, (known, scene)) in lamps.known.iter().zip(lamps.scenes.iter()).enumerate() {
+            if *known {
+                write!(f, " {bank}:{scene}")?;
+            }
+        }
+        Ok(())
     }
 }
 
-fn say_positions(lamps: Lamps) {
-    let mut b: usize = 0;
-    while b < 16 {
-        say_position(b, lamps.known[b], lamps.scenes[b]);
-        b += 1;
+// What is saved of a session over a profile, at most 17 records of eight bytes.
+#[derive(Clone, Copy)]
+struct Saved<'a> {
+    session: &'a Session,
+    profile: &'a [u8],
+}
+
+impl fmt::Display for Saved<'_> {
+    fn fmt<W: fmt::Write>(&self, f: &mut fmt::Formatter<W>) -> fmt::Result {
+        let mut out = [0u8; 136];
+        match state::saved_records(self.session, self.profile, &mut out) {
+            Ok(count) => {
+                let records = Hex(&out[..8 * count.min(17)]);
+                write!(f, " saved {count} {records}")
+            }
+            Err(cause) => {
+                let why = cause.number();
+                write!(f, " refused {why}")
+            }
+        }
     }
 }
 
-// The first records.
-fn say_records(bytes: &[u8; 136], count: usize) {
-    let mut i: usize = 0;
-    while i < 136 && i / 8 < count {
-        text::byte(bytes[i]);
-        i += 1;
+// The number that declines the restore, or 0.
+fn restore(session: &mut Session, profile: &[u8], saved: &[u8]) -> u8 {
+    match state::restore(*session, profile, saved) {
+        Ok(restored) => {
+            *session = restored;
+            0
+        }
+        Err(cause) => cause.number(),
     }
 }
 
-fn say_saved(session: Session, profile: &[u8]) {
-    let mut out = [0u8; 136];
-    let r = state::saved_records(session, profile, &mut out);
-    if r.why != 0 {
-        text::say(b" refused ");
-        text::number(r.why as u64);
-        return;
-    }
-    text::say(b" saved ");
-    text::number(r.count as u64);
-    text::say(b" ");
-    say_records(&out, r.count);
-}
-
-// The session after the restore.
-pub fn say_restore(session: Session, profile: &[u8], saved: &[u8]) -> Session {
-    let r = state::restore(session, profile, saved);
-    let s = r.session;
-    text::say(b"restore ");
-    text::number(r.why as u64);
-    text::say(b" bank ");
-    text::number(s.bank as u64);
-    say_positions(s.lamps);
-    say_saved(s, profile);
-    s
+pub fn say_restore(session: &mut Session, profile: &[u8], saved: &[u8]) {
+    let why = restore(session, profile, saved);
+    let bank = session.bank;
+    let positions = Positions(session.lamps);
+    let kept = Saved { session, profile };
+    printing::show(format_args!("restore {why} bank {bank}{positions}{kept}\n"));
 }

@@ -1,10 +1,9 @@
 -- What `run` writes of an event, by document 01's paragraph on it. Definitions only.
-use Rattle.std.specs.Prelude.{ℕ, Bool, true, false, List, ◌++◌, length}
+use Rattle.std.specs.Prelude.{ℕ, List, ◌++◌, length}
 use Rattle.drivers.specs.Shown.{calls_in, messages_in}
 use Rattle.drivers.specs.declared.Call.{Call}
 use Rattle.definition.specs.Step.{Ended, done, refused, waiting}
-use Rattle.delivery.specs.declared.Outcome.{Outcome}
-use Rattle.delivery.specs.declared.Outcome.TheVariants as outcome
+use Rattle.delivery.specs.Delivery.{Told, Done, Refused, Waiting}
 use Rattle.printing.specs.Ascii.{ascii}
 use Rattle.printing.specs.Text.{line_end, message_lines, call_lines, step_words, count_words, refused_line, waiting_lines}
 
@@ -18,14 +17,8 @@ event_text n (done ms cs used saved) = done_text n ms cs
 event_text n (refused why) = refused_line (ascii "event") n why
 event_text n (waiting c) = waiting_lines n c
 
--- of event n, by its outcome and the message and call buffers behind it
-abbrev pub outcome_text : ℕ → Outcome → List ℕ → List ℕ → List ℕ
-outcome_text n (outcome.Done sent asked used saved) ms cs = done_text n (messages_in sent ms) (calls_in asked cs)
-outcome_text n (outcome.Refused why) ms cs = refused_line (ascii "event") n why
-outcome_text n (outcome.Waiting c) ms cs = waiting_lines n c
-
--- a refused or waiting event is "the end"
-abbrev pub goes_on : Outcome → Bool
-goes_on (outcome.Done sent asked used saved) = true
-goes_on (outcome.Refused why) = false
-goes_on (outcome.Waiting c) = false
+-- of event n, by what its outcome tells and the message and call buffers behind it
+abbrev pub outcome_text : ℕ → Told → List ℕ → List ℕ → List ℕ
+outcome_text n (Done sent asked used saved) ms cs = done_text n (messages_in sent ms) (calls_in asked cs)
+outcome_text n (Refused why) ms cs = refused_line (ascii "event") n why
+outcome_text n (Waiting c) ms cs = waiting_lines n c

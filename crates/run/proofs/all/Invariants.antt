@@ -1,11 +1,7 @@
 -- `run::all` meets its contract. Assumes nothing.
-use Prim.Native.Nat.{◌-◌, ◌≤◌}
-use mathlib.Core.Path.{◌≡◌}
-use lib.ListN.{length}
+use Rattle.std.proofs.Common.{◌≤◌, length}
 use Rattle.run.proofs.all.Given as goal
 
-abbrev pub invariant-loop-from : goal.invariant-loop-from
-invariant-loop-from l = (l.from ≤ length l.events) × (l.read ≤ length l.answers) × (l.n ≤ l.from) × (length l.out ≡ 32960)
-
-abbrev pub decreases-loop-from : goal.decreases-loop-from
-decreases-loop-from l = length l.events - l.from
+abbrev pub invariant-loop-n : goal.invariant-loop-n
+invariant-loop-n l =
+    (goal.iterator-loop-n).can_next l.n-iterator × (goal.iterator-loop-n).is_finite l.n-iterator × (length l.left ≤ length l.answers)

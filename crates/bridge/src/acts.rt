@@ -119,7 +119,9 @@ fn on_panel(
     }
 }
 
-// An event that may ask or send, other than a hand's. `there` is the bank that is current after it.
+// An event that may ask or send, other than a hand's. `there` is the bank that is current after it. Lamps, silenced levels, moves and time are no panel here: a
+// mute and a solo change the levels, of which a panel is lent the targets alone. Which events run here is asked for, as
+// `step` tells them apart: a type of them would be the event's own once more.
 pub fn run(
     io: &mut Io<'_>,
     here: &Accepted<'_>,

@@ -131,6 +131,7 @@ fn panel_button(
     requires no_solo { eqb (kind_of b.note) 1 ≡ false }
     ensures { PressesThere (button_of b.note) here.now.here there.now panel.old panel.new (shown io.old) result (shown io.new) }
 {
+    // One match over the kind: a table of functions would be no plainer.
     match b.kind() {
         Kind::ArrowLeft => page(io, here, panel, false),
         Kind::ArrowRight => page(io, here, panel, true),
@@ -186,7 +187,7 @@ pub fn bank_after(profile: &[u8], bank: u8, press: Option<Button>) -> u8
 }
 
 // A pressed button. `there` is the bank that is current after it, with its own faders. Here and there go side by side: most presses look at one of them alone, so
-// that a struct of both would be taken apart in each arm.
+// that a struct of both would be taken apart in each arm. What is known of both is asked for with them.
 #[tactic(auto, unfolding(protocol::specs::Protocol::number_of, drivers::specs::Talk::next), using(crate::proofs::ButtonsLaws::mute_room, crate::proofs::PressLaws::other_note, crate::proofs::PressLaws::adds_muted, crate::proofs::PressLaws::adds_soloed, crate::proofs::PressLaws::muted, crate::proofs::PressLaws::soloed))]
 pub fn button(
     io: &mut Io<'_>,

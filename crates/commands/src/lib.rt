@@ -11,7 +11,8 @@ use drivers::Io;
 use lookup::{Command, Rec};
 use rig::Current;
 
-// What the bank's driver says this button does, if the profile did not say. The driver is opened for it; its buttons are no call.
+// What the bank's driver says this button does, if the profile did not say. The driver is opened for it; its buttons are no call. The
+// kind is the profile's number, as in `run_command`.
 #[tactic(auto, unfolding(definition::specs::Buttons::default_button, drivers::specs::Talk::next), using(lookup::specs::NamedLaws::is_absent, lookup::specs::NamedLaws::is_there, lookup::specs::NamedLaws::its_name))]
 fn default_button(io: &mut Io<'_>, here: &Current<'_>, kind: u8) -> Option<Command>
     ensures { got result (shown io.new) ≡ default_button (rig_in here.now) kind (shown io.old) }
@@ -30,7 +31,7 @@ fn default_button(io: &mut Io<'_>, here: &Current<'_>, kind: u8) -> Option<Comma
 }
 
 // Runs what the button is bound to, or what the bank's driver does with it. The kind is the profile's number: a narrower type would ask more of callers. A
-// `match` and no `or_else`: its closure would hold the line.
+// `match` and no `or_else`: its closure would hold the line, and be no plainer.
 #[tactic(auto, unfolding(definition::specs::Buttons::run_command))]
 pub fn run_command(io: &mut Io<'_>, here: &Current<'_>, kind: u8)
     ensures { shown io.new ≡ run_command (rig_in here.now) kind (shown io.old) }

@@ -369,7 +369,7 @@ impl<'a> Io<'a> {
 }
 
 impl Reply<'_> {
-    // The names of a list's items.
+    // The names of a list's items, which go by their number, as the definitions have them. It stands beside `faders` as `Names` beside `LiveFaders`.
     #[tactic(auto, unfolding(crate::specs::Shown::reply_in), using(crate::proofs::Laws::names_more))]
     fn names(&self) -> Names
         requires { Listing 6 self.now }

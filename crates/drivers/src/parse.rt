@@ -67,6 +67,8 @@ fn list(part: &[u8], live: bool) -> Answer
 
 // ── one record, of kind k, to each kind of call ──
 
+// k is document 01's number, or a byte that is none: an enum would be matched here once more, and be no plainer.
+
 #[tactic(auto, unfolding(crate::specs::Answers::yes_no))]
 fn yes_no(b: u8) -> Answer
     ensures { result ≡ yes_no b }
@@ -147,7 +149,7 @@ fn to_other(k: u8) -> Answer
     }
 }
 
-// The answer that stands first in the part, to a call of the kind.
+// The answer that stands first in the part, to a call of the kind: any byte, as the definition has it, since a narrower type would ask more of callers.
 #[tactic(auto, unfolding(crate::specs::Answers::answer_of))]
 pub fn first(part: &[u8], kind: u8) -> Answer
     ensures { result ≡ answer_of part.now kind }
@@ -159,6 +161,7 @@ pub fn first(part: &[u8], kind: u8) -> Answer
     if k == 0 {
         return Answer::Refused;
     }
+    // One match over the kind: a table of functions would be no plainer.
     match Kind::try_from(kind) {
         Ok(Kind::Read) => to_read(part, k),
         Ok(Kind::Playing) => to_playing(part, k),

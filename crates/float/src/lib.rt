@@ -95,7 +95,7 @@ pub fn nudged(current: f64, sum: i32) -> f64
     clamp(current + sum as f64 * 0.015625)
 }
 
-// A definition has this leaf by name: two pairs of ends, and no type of a range.
+// A definition has this leaf by name, over two pairs of ends and no type of a range; no code calls it.
 pub fn same_range(low: f64, high: f64, low2: f64, high2: f64) -> bool
     ensures { result ≡ same_range low high low2 high2 }
 {

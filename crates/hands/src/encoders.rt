@@ -28,6 +28,7 @@ pub enum Declined {
 }
 
 impl Declined {
+    // A method and no `From`: contracts say `number_of`, and a call reads the same.
     pub fn number(self) -> u8
         ensures { result ≡ number_of self }
     {

@@ -21,7 +21,8 @@ fn is_held(device: Option<f64>, last: Option<f64>, value: f64) -> bool
     float::far(value, c) && !last.is_some_and(|p| float::crossed(p, c, value))
 }
 
-// A fader in control of its destination asks nothing.
+// A fader in control of its destination asks nothing. That the channel is below 16 is asked for from the event's test on: a type of channels would be taken apart
+// at each use, and be no plainer.
 pub fn in_control(here: &Current<'_>, channel: u8) -> Verdict
     requires { channel < 16 }
     ensures { result ≡ controlled (destination (rig_in here.now) (channel + 1)) }

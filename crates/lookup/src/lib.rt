@@ -1,6 +1,7 @@
 #![tactic(auto)]
 
-// Every lookup that the bridge makes in a profile. `specs/View.antt` offers them to the definition as one record.
+// Every lookup that the bridge makes in a profile. `specs/View.antt` offers them to the definition as one record. Each takes the profile, and a bank's number where
+// it needs one: globals and other banks than the current one are looked up too, so that a struct of both would be no plainer.
 ghost use Rattle.std.specs.Prelude.{◌≡◌, ◌<◌, ◌≤◌, ltb, length, get_or, None, IfSome};
 ghost use Rattle.std.specs.Option.{option_map};
 ghost use Rattle.profile.specs.Profile.{records, bank_count, verdict};
@@ -45,7 +46,7 @@ pub enum Rec {
     Other(u8),
 }
 
-// A transport button and what it runs.
+// A transport button and what it runs. The kind is the profile's number, as kinds of records are.
 #[derive(Clone, Copy)]
 pub struct Entry {
     pub kind: u8,

@@ -37,6 +37,7 @@ impl fmt::Display for Messages<'_> {
     }
 }
 
+// A match on the kind, and no table of words: either has a line for each.
 #[tactic(auto, unfolding(crate::specs::Text::kind_word), using(crate::proofs::Laws::live_kind))]
 pub fn kind_name(kind: u8) -> &'static str
     ensures { result.now ≡ kind_word kind }

@@ -86,6 +86,7 @@ impl Record<'_> {
     fn fields_ok(self) -> bool
         ensures { result ≡ record_ok self.entry.profile.now self.entry.k }
     {
+        // One match over the kind: a table of functions would be no plainer.
         match self.kind() {
             0 => self.settings_ok(),
             1 => self.bank_ok(),

@@ -29,6 +29,7 @@ pub enum Refusal {
 }
 
 impl Refusal {
+    // A method and no `From`: contracts say `number_of`, and a call reads the same.
     pub fn number(self) -> u8
         ensures { result ≡ number_of self }
     {

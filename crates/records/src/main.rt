@@ -17,11 +17,11 @@ const STDIN_FILENO: i32 = 0;
 
 // ── input ──
 
-// The next byte, 0 where the input ends.
-fn next_byte() -> u8 {
+// The next byte, if the input goes on.
+fn next_byte() -> Option<u8> {
     let mut room = [0u8; 1];
-    io::read_full(STDIN_FILENO, &mut room);
-    room[0]
+    let n = io::read_full(STDIN_FILENO, &mut room);
+    if n == 1 { Some(room[0]) } else { None }
 }
 
 // Reads a length and as many bytes, at most as many as there is room for.
@@ -35,7 +35,7 @@ fn read_part(room: &mut [u8; 4096]) -> usize
 }
 
 fn pass_answers() {
-    let kind = next_byte();
+    let kind = next_byte().unwrap_or(0);
     let mut room = [0u8; 4096];
     let n = read_part(&mut room);
     uses::say(kind, &room[..n]);
@@ -43,7 +43,7 @@ fn pass_answers() {
 
 // ── cases ──
 
-// The session that there is, and the profile that it is over.
+// The session that there is, and the profile that it is over. There is no heap: the profile is an array, with how many of its bytes there are.
 #[derive(Drop)]
 struct Present {
     session: Session,
@@ -68,9 +68,9 @@ impl Present {
     // Whether there was a case.
     fn pass(&mut self) -> bool {
         match next_byte() {
-            b'A' => pass_answers(),
-            b'P' => self.pass_profile(),
-            b'R' => self.pass_restore(),
+            Some(b'A') => pass_answers(),
+            Some(b'P') => self.pass_profile(),
+            Some(b'R') => self.pass_restore(),
             _ => return false,
         }
         true

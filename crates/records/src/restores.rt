@@ -1,6 +1,7 @@
 // A restore, what the session has of it, and the records that follow from the session.
 use printing::Hex;
 use session::{Lamps, Session};
+use state::Refusal;
 use std::fmt;
 
 // The position of each bank of which it is known.
@@ -42,19 +43,13 @@ impl fmt::Display for Saved<'_> {
     }
 }
 
-// The number that declines the restore, or 0.
-fn restore(session: &mut Session, profile: &[u8], saved: &[u8]) -> u8 {
-    match state::restore(*session, profile, saved) {
-        Ok(restored) => {
-            *session = restored;
-            0
-        }
-        Err(cause) => cause.number(),
-    }
+fn restore(session: &mut Session, profile: &[u8], saved: &[u8]) -> Result<(), Refusal> {
+    *session = state::restore(*session, profile, saved)?;
+    Ok(())
 }
 
 pub fn say_restore(session: &mut Session, profile: &[u8], saved: &[u8]) {
-    let why = restore(session, profile, saved);
+    let why = restore(session, profile, saved).map_or_else(Refusal::number, |()| 0);
     let bank = session.bank;
     let positions = Positions(session.lamps);
     let kept = Saved { session, profile };

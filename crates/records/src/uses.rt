@@ -30,6 +30,7 @@ impl fmt::Display for Used<'_> {
 
 // The use that makes a call of the kind.
 fn got_by(kind: Kind, io: &mut Io<'_>) -> Got {
+    // One match over the kind: a table of functions would be no plainer.
     match kind {
         Kind::Open => Got::Done(io.open(DRIVER)),
         Kind::Read => Got::Level(io.read(DRIVER, 7)),

@@ -13,7 +13,8 @@ pub struct Current<'a> {
     pub ghost few: { strips.now.known ≡ true → strips.now.count ≤ 8 },
 }
 
-// The same, over a profile that is accepted.
+// The same, over a profile that is accepted. That the bank is below 16 is asked for where scenes are paged and loaded: held here, it would ask more of those that
+// look up a device or refresh a live list, which take any bank.
 #[derive(Clone, Copy)]
 pub struct Accepted<'a> {
     pub here: Current<'a>,

@@ -84,6 +84,7 @@ impl Accepted<'_> {
     pub fn device(&self) -> Option<u8>
         ensures { result ≡ named (device_of (here_in self.now.here)) }
     {
+        // A `match` and no `or_else`: the proof over its closure did not close.
         match self.own_driver() {
             None => self.here.bank_driver(),
             own => own,

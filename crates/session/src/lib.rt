@@ -119,7 +119,7 @@ pub struct Silenced {
 
 // ── all of it ──
 
-// It crosses to C, in memory of one fixed size: so a flag has its value beside it (known and level, on and start), a list its count, and two arrays stand side by
+// It crosses to C, in memory of one fixed size: so a flag has its value beside it (known and level, on and start, livedue and liveat), a list its count, and two arrays stand side by
 // side (records and sums, targets and levels), where Option, Vec and a list of pairs would not cross. C hands these structs on, and may hand
 // any: so no type can hold the bounds of their counts, and the methods ask for them.
 #[repr(C)]

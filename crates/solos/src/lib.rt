@@ -114,6 +114,7 @@ fn solo_peer(io: &mut Io<'_>, peer: Option<Destination>, hush: bool, silenced: &
     }
 }
 
+// That no target is there twice is asked for, here and below: C may hand any targets, so that no type holds it.
 // Every peer but the fader itself is silenced.
 #[tactic(auto, using(crate::proofs::Laws::none_on, crate::proofs::Laws::more_on))]
 fn solo_on(io: &mut Io<'_>, peers: &Peers, fader: u8, silenced: &mut Silenced)

@@ -73,7 +73,7 @@ fn push_fader(io: &mut Io<'_>, here: &Current<'_>, lamps: &Lamps, hushed: &[u16]
     io.send_led(protocol::SELECT + channel, selected);
 }
 
-// Everything the surface can show of its faders.
+// Everything the surface can show of its faders. Lamps and targets go side by side: a mute and a solo change both, and a panel has more than is shown here.
 #[tactic(auto, unfolding(definition::specs::Lamps::push_state), using(crate::proofs::Laws::no_fader, crate::proofs::Laws::one_fader))]
 pub fn push_state(io: &mut Io<'_>, here: &Current<'_>, lamps: &Lamps, hushed: &[u16])
     ensures { shown io.new ≡ push_state (rig_in here.now) lamps.now hushed.now (shown io.old) }

@@ -18,7 +18,7 @@ enum Place {
     Remark,
 }
 
-// What was read of a line: the digits of its message, and where the reader stands.
+// What was read of a line: the digits of its message, and where the reader stands. There is no heap: the bytes are an array, with how many digits are read.
 #[derive(Drop)]
 struct Line {
     bytes: [u8; 3],

@@ -16,14 +16,14 @@ use session::{Flash, Line, Live, Move, Session, Silenced, Strip, Strips, Turns};
 // ── none twice ──
 
 // What no two entries of a list may share: a move's channel, a fader's number, a target.
-trait Entry {
+trait Keyed {
     ghost same: { Self → Self → Bool };
 
     fn same(&self, other: &Self) -> bool
         ensures { result ≡ same self.now other.now };
 }
 
-impl Entry for Move {
+impl Keyed for Move {
     ghost same = { same_channel };
 
     fn same(&self, other: &Move) -> bool {
@@ -31,7 +31,7 @@ impl Entry for Move {
     }
 }
 
-impl Entry for Strip {
+impl Keyed for Strip {
     ghost same = { same_number };
 
     fn same(&self, other: &Strip) -> bool {
@@ -39,7 +39,7 @@ impl Entry for Strip {
     }
 }
 
-impl Entry for u16 {
+impl Keyed for u16 {
     ghost same = { eqb };
 
     fn same(&self, other: &u16) -> bool {
@@ -48,7 +48,7 @@ impl Entry for u16 {
 }
 
 // The i-th is the same as one before it.
-fn is_again<T: Entry>(list: &[T], i: usize) -> bool
+fn is_again<T: Keyed>(list: &[T], i: usize) -> bool
     requires { i < length list.now }
     ensures { result ≡ unwrap_or (option_map (λ x. list_any (λ z. T.same z x) (take i list.now)) (slice_get list.now i)) false }
 {
@@ -56,7 +56,7 @@ fn is_again<T: Entry>(list: &[T], i: usize) -> bool
     list[..i].iter().any(|z| z.same(x))
 }
 
-fn none_twice<T: Entry>(list: &[T]) -> bool
+fn none_twice<T: Keyed>(list: &[T]) -> bool
     ensures { result ≡ no_twice T.same list.now }
 {
     (0..list.len()).all(|i| !is_again(list, i))
@@ -133,7 +133,7 @@ fn sums_in_range(sums: &[i32]) -> bool
     sums.iter().all(|sum| (-1000000..=1000000).contains(sum))
 }
 
-// Record i wires its encoder to another destination than those before it. No `Entry`: what two records share is told by the profile, which is no part of them.
+// Record i wires its encoder to another destination than those before it. No `Keyed`: what two records share is told by the profile, which is no part of them.
 fn new_destination(profile: &[u8], records: &[u16], i: usize) -> bool
     requires records_value { all_of (is_encoder profile.now) records.now ≡ true }
     requires i_in_bounds { i < length records.now }

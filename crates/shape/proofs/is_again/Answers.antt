@@ -9,4 +9,4 @@ returns g c =
     let a = c.args in
     let x = c.index-list-i.result in
     rw (slice_get-get_or a.list.now a.i x c.requires, sym c.index-list-i.is)
-    (any_from_yields_List (λ z. g.T.Entry.same z x) _ _ _ c.any.ensures.ran (YieldsList-from_slice (take a.i a.list.now) c.iter.ensures.rest) (λ x b q k. search (rules, tests)))
+    (any_from_yields_List (λ z. g.T.Keyed.same z x) _ _ _ c.any.ensures.ran (YieldsList-from_slice (take a.i a.list.now) c.iter.ensures.rest) (λ x b q k. search (rules, tests)))

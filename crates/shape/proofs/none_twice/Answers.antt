@@ -6,5 +6,5 @@ use Rattle.shape.proofs.none_twice.Goals as goal
 pub returns : goal.returns
 returns g c =
     let xs = c.args.list.now in
-    let same = g.T.Entry.same in
+    let same = g.T.Keyed.same in
     all_below (New-in same xs) (length xs) c.all.ensures.ran refl (λ x b q k. search (rules, tests)) ∙ each-new-in same xs

@@ -1,89 +1,74 @@
--- What std writes of a number is the definition's text of it, and what stands in a buffer is read of its parts in turn. Assumes nothing.
-use Rattle.std.specs.Prelude.{ℕ, zero, suc, ◌+◌, ◌-◌, ◌*◌, ◌/◌, ◌%◌, ◌^◌, ◌≤◌, ◌<◌, ◌≡◌, Bool, true, false, ◌==◌, ltb, List, [], ◌∷◌, ◌++◌, length, take, drop, get_or, replicate}
-use Rattle.std.specs.Fmt.{decimal as std_decimal, digits, digits_onto, padded_integral, char_count, format_spec}
+-- The digits of a number are the definition's text of it, and what stands in a buffer is read of its parts in turn. Assumes nothing.
+use Rattle.std.specs.Prelude.{ℕ, zero, suc, ◌+◌, ◌-◌, ◌*◌, ◌/◌, ◌%◌, ◌^◌, ◌≤◌, ◌<◌, ◌≡◌, Bool, true, false, leb, ltb, List, [], ◌∷◌, ◌++◌, length, take, drop, get_or}
 use Rattle.std.proofs.Common.{arith, rules, sym, ◌∙◌, length-append, length-drop, append_assoc, append-nil, get_or-take, get_or-drop, drop-drop, lt-ltb}
 use Rattle.std.proofs.Math.Path.{refl, ap}
-use native.Mathlib.Nat.{pow-suc}
+use native.Mathlib.Nat.{pow-le-pow_right, pow-suc, lt_of_lt_of_le}
 use Rattle.std.proofs.Math.Seq.{take-append_seam, drop-append_seam}
-use Rattle.std.proofs.lemmas.Fmt.{decimal_from_appends, length-decimal-le, hex_byte}
 use lib.Dec.{lit<, lit≤}
-use lib.ListN.{get_or-eq_default, length-replicate}
+use lib.ListN.{get_or-eq_default}
 use Rattle.base.specs.Words.{le64}
 use Rattle.drivers.specs.BytesLaws.{take_three}
 use Rattle.drivers.specs.declared.Call.{Call}
 use Rattle.drivers.specs.Shown.{call_at, calls_in, message_at, messages_in}
-use Rattle.io.specs.Digits.{hex_digit_ascii, last_digits}
+use Rattle.io.specs.Digits.{IsDigitCount, hex_digit_ascii, last_digits}
 use Rattle.printing.specs.Ascii.{ascii}
 use Rattle.printing.specs.Text.{decimal_in, decimal, bits, hex, word, level, line_end, kind_words, kind_word, message_line, message_lines, call_line, call_lines}
 
 -- ── numbers ──
 
--- the definition's digits, of at most so many
-up_to : ℕ → ℕ → List ℕ
-up_to zero n = []
-up_to (suc k) n = decimal_in k n
-
-low_digit : (n : ℕ) → n < 10 → hex_digit_ascii n ≡ 48 + n
-low_digit n l = rw (lt-ltb n 10 l)
-
-up_to-one : (k n : ℕ) → n < 10 → up_to (suc k) n ≡ (48 + n) ∷ []
-unfolding up_to decimal_in
-up_to-one zero n l = let same : n % 10 ≡ n = omega arith in rw (same, low_digit n l)
-up_to-one (suc k) n l = rw (lt-ltb n 10 l)
-
-up_to-more : (k n : ℕ) → 10 ≤ n → up_to (suc k) n ≡ up_to k (n / 10) ++ ((48 + n % 10) ∷ [])
-unfolding up_to decimal_in
-up_to-more zero n l = rw (low_digit (n % 10) (omega arith))
-up_to-more (suc k) n l = let no : ltb n 10 ≡ false = search (rules, l) in rw (low_digit (n % 10) (omega arith), no)
-
-pub decimal_is : (n : ℕ) → n < 2 ^ 64 → std_decimal n ≡ decimal n
-unfolding up_to
-decimal_is n l = sym (decimal_from_appends up_to (record { one = up_to-one; more = up_to-more }) 20 n l (length-decimal-le 20 n (lit< tt) (omega (arith, l)) l))
-
-zeros : ℕ → List ℕ
-zeros k = replicate k 48
-
-zeros_on : (k : ℕ) → zeros k ++ (48 ∷ []) ≡ 48 ∷ zeros k
-unfolding zeros
-zeros_on zero = refl
-zeros_on (suc k) = ap (λ (l : List ℕ). 48 ∷ l) (zeros_on k)
-
-none_left : (k : ℕ) → last_digits 16 k 0 ≡ zeros k
-unfolding zeros
-none_left zero = refl
-none_left (suc k) = ap (λ (l : List ℕ). l ++ (48 ∷ [])) (none_left k) ∙ zeros_on k
-
--- the digits that std writes, and the zeros before them
-Filled : ℕ → ℕ → ℕ → List ℕ → Type 0
-Filled k m n acc = (z : ℕ) × (zeros z ++ digits_onto (suc m) 16 false n acc ≡ last_digits 16 (suc k) n ++ acc)
-
-filled : (k m n : ℕ) (acc : List ℕ) → n < 16 ^ suc k → k ≤ m → Filled k m n acc
-unfolding Filled zeros
-filled zero m n acc l h = let none : n / 16 ≡ 0 = omega arith in (0, rw none)
-filled (suc k) zero n acc l h = absurd (omega arith)
-filled (suc k) (suc m) n acc l h =
-    let wide : 16 ^ suc (suc k) ≡ 16 ^ suc k * 16 = pow-suc 16 (suc k) in
-    go (n / 16 == 0) refl (λ some. filled k m (n / 16) (hex_digit_ascii (n % 16) ∷ acc) (omega (arith, l, wide)) (omega arith))
+-- a number below a power of the base has no more digits than that
+few : (b top n k : ℕ) → 0 < b → n < b ^ top → (top < k → b ^ (k - 1) ≤ n) → k ≤ top
+few b top n k p l m = go (leb k top) refl
   where
-    go : (t : Bool) → (n / 16 == 0) ≡ t → ((n / 16 == 0) ≡ false → Filled k m (n / 16) (hex_digit_ascii (n % 16) ∷ acc)) → Filled (suc k) (suc m) n acc
-    go true e f =
-        let none : n / 16 ≡ 0 = search (rules, e) in
-        (suc k, rw (none, none_left (suc k)) (sym (append_assoc (zeros (suc k)) (hex_digit_ascii (n % 16) ∷ []) acc)))
-    go false e f =
-        ((f e).0, rw e ((f e).1 ∙ sym (append_assoc (last_digits 16 (suc k) (n / 16)) (hex_digit_ascii (n % 16) ∷ []) acc)))
+    go : (t : Bool) → leb k top ≡ t → k ≤ top
+    go true e = search (rules, e)
+    go false e =
+        let more : top < k = search (rules, e) in
+        let grown : b ^ top ≤ b ^ (k - 1) = pow-le-pow_right p (omega arith) in absurd (omega (arith, grown, m more))
 
-pub bits_are : (n : ℕ) → n < 2 ^ 64 → padded_integral (format_spec 32 0 4 16 (2 ^ 64 - 1)) false [] (digits 16 false n) ≡ bits n
-unfolding padded_integral char_count digits bits Filled zeros
-bits_are n l =
-    let found = filled 15 63 n [] l (lit≤ tt) in
-    let ds = digits 16 false n in
-    let long : length (last_digits 16 16 n ++ []) ≡ 16 = refl in
-    let left : 16 - length ds - 0 - 0 ≡ found.0 = omega (arith, length-append (zeros found.0) ds, ap length found.1, length-replicate {A = ℕ} found.0 48, long) in
-    rw (append-nil ds, left) (found.1 ∙ append-nil _)
+-- a number below ten has one digit
+one_place : (n k : ℕ) → IsDigitCount 10 1 n k → n < 10 → k ≡ 1
+one_place n k f l = omega (arith, few 10 1 n k (lit< tt) l f.2, f.0)
 
--- what std writes of a byte
-pub byte_is : (n : ℕ) → n < 256 → padded_integral (format_spec 32 0 4 2 (2 ^ 64 - 1)) false [] (digits 16 false n) ≡ hex_digit_ascii (n / 16) ∷ hex_digit_ascii (n % 16) ∷ []
-byte_is n l = hex_byte false n l
+-- any other has one more than its tenth
+fewer : (n j : ℕ) → IsDigitCount 10 1 n (suc (suc j)) → IsDigitCount 10 1 (n / 10) (suc j)
+fewer n j f =
+    let wide : 10 ^ suc (suc j) ≡ 10 ^ suc j * 10 = pow-suc 10 (suc j) in
+    let tall : 10 ^ suc j ≡ 10 ^ j * 10 = pow-suc 10 j in
+    let less : suc (suc j) - 1 ≡ suc j = omega arith in
+    let least : 10 ^ suc j ≤ n = rw (← less) (f.2 (omega arith)) in
+    let same : suc j - 1 ≡ j = omega arith in
+    (omega arith, omega (arith, f.1, wide), λ h. rw same (omega (arith, least, tall)))
+
+-- the last digits of a number, as many as it has, are those of the definition
+last_are : (more n k : ℕ) → k ≤ suc more → IsDigitCount 10 1 n k → last_digits 10 k n ≡ decimal_in more n
+unfolding decimal_in
+last_are more n zero h f = absurd (omega (arith, f.0))
+last_are zero n (suc zero) h f = refl
+last_are zero n (suc (suc j)) h f = absurd (omega arith)
+last_are (suc more) n (suc zero) h f =
+    let l : n < 10 = f.1 in
+    let same : n % 10 ≡ n = omega (arith, l) in
+    rw (same, lt-ltb n 10 l)
+last_are (suc more) n (suc (suc j)) h f = go (ltb n 10) refl (last_are more (n / 10) (suc j) (omega arith) (fewer n j f))
+  where
+    go : (t : Bool) → ltb n 10 ≡ t → last_digits 10 (suc j) (n / 10) ≡ decimal_in more (n / 10) → last_digits 10 (suc (suc j)) n ≡ decimal_in (suc more) n
+    go true e q = let l : n < 10 = search (rules, e) in absurd (omega (arith, one_place n (suc (suc j)) f l))
+    go false e q = rw (e, q)
+
+pub decimal_is : (n k : ℕ) → n < 2 ^ 64 → IsDigitCount 10 1 n k → last_digits 10 k n ≡ decimal n
+decimal_is n k l f = last_are 19 n k (few 10 20 n k (lit< tt) (lt_of_lt_of_le l (lit≤ tt)) (λ h. f.2 (omega (arith, h)))) f
+
+pub bits_are : (n k : ℕ) → n < 2 ^ 64 → IsDigitCount 16 16 n k → last_digits 16 k n ≡ bits n
+unfolding bits
+bits_are n k l f =
+    let q : k ≡ 16 = omega (arith, few 16 16 n k (lit< tt) (lt_of_lt_of_le l (lit≤ tt)) f.2, f.0) in rw q
+
+-- a byte has two digits
+pub byte_is : (n k : ℕ) → n < 256 → IsDigitCount 16 2 n k → last_digits 16 k n ≡ hex_digit_ascii (n / 16) ∷ hex_digit_ascii (n % 16) ∷ []
+byte_is n k l f =
+    let q : k ≡ 2 = omega (arith, few 16 2 n k (lit< tt) l f.2, f.0) in
+    let high : n / 16 % 16 ≡ n / 16 = omega (arith, l) in rw (q, high)
 
 -- one byte more
 pub hex_more : (bs : List ℕ) (i : ℕ) → i < length bs → hex (take (i + 1) bs) ≡ hex (take i bs) ++ (hex_digit_ascii (get_or bs i 0 / 16) ∷ hex_digit_ascii (get_or bs i 0 % 16) ∷ [])

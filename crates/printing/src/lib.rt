@@ -1,34 +1,49 @@
 #![tactic(auto)]
 
-// What the programs write. Each text of `specs/Text` has a type here that is displayed as that text: the bytes that `{}` writes are the definition's. `show` writes
-// any such text to standard output.
-//
-// The promise is of a text that was written without an error; that each is, the tests show.
+// What the programs write. Each text of `specs/Text` has a type here: what it puts is the definition's bytes, whatever sink takes them. `Stdout` is the sink that hands
+// them to the system.
 mod lines;
 mod stdout;
 #[cfg(test)]
 mod tests;
+mod text;
 mod wire;
 
-ghost use Rattle.std.specs.Prelude.{Some};
-ghost use Rattle.printing.specs.Text.{word, level, hex as hex_of};
+ghost use Rattle.std.specs.Fmt.{WritesInCalls};
+ghost use Rattle.printing.specs.Text.{decimal, bits, word, level, hex as hex_of};
 
 pub use lines::{Counts, ProfileRefused, Refused, Step, Waiting};
-use std::fmt;
-pub use stdout::show;
+pub use stdout::{Stdout, show};
+pub use text::{Printed, Sink, Text};
 pub use wire::{CallLine, Calls, MessageLine, Messages, kind_name};
+
+fn put_decimal<S: Sink>(n: u64, out: &mut S)
+    ensures { WritesInCalls S.takes out.old (decimal n) out.new }
+{
+    let mut digits = [0u8; 20];
+    let k = io::decimal(n, &mut digits);
+    out.take(&digits[..k]);
+}
+
+// The sixteen hexadecimal digits of a number.
+fn put_bits<S: Sink>(n: u64, out: &mut S)
+    ensures { WritesInCalls S.takes out.old (bits n) out.new }
+{
+    let mut digits = [0u8; 16];
+    let k = io::hex(n, 16, &mut digits);
+    out.take(&digits[..k]);
+}
 
 // A space and a decimal number.
 #[derive(Clone, Copy)]
 pub struct Word(pub u64);
 
-impl fmt::Display for Word {
-    ghost output = { λ w. Some (word w.0) };
+impl Text for Word {
+    ghost text = { λ w. word w.0 };
 
-    #[tactic(auto, using(crate::proofs::Laws::decimal_is))]
-    fn fmt<W: fmt::Write>(&self, f: &mut fmt::Formatter<W>) -> fmt::Result {
-        let n = self.0;
-        write!(f, " {n}")
+    fn put<S: Sink>(&self, out: &mut S) {
+        " ".put(out);
+        put_decimal(self.0, out);
     }
 }
 
@@ -36,13 +51,12 @@ impl fmt::Display for Word {
 #[derive(Clone, Copy)]
 pub struct Level(pub u64);
 
-impl fmt::Display for Level {
-    ghost output = { λ l. Some (level l.0) };
+impl Text for Level {
+    ghost text = { λ l. level l.0 };
 
-    #[tactic(auto, using(crate::proofs::Laws::bits_are))]
-    fn fmt<W: fmt::Write>(&self, f: &mut fmt::Formatter<W>) -> fmt::Result {
-        let n = self.0;
-        write!(f, " {n:016x}")
+    fn put<S: Sink>(&self, out: &mut S) {
+        " ".put(out);
+        put_bits(self.0, out);
     }
 }
 
@@ -50,15 +64,15 @@ impl fmt::Display for Level {
 #[derive(Clone, Copy)]
 pub struct Hex<'a>(pub &'a [u8]);
 
-impl fmt::Display for Hex<'_> {
-    ghost output = { λ h. Some (hex_of h.0.now) };
+impl Text for Hex<'_> {
+    ghost text = { λ h. hex_of h.0.now };
 
     #[tactic(auto, unfolding(crate::specs::Text::hex))]
-    fn fmt<W: fmt::Write>(&self, f: &mut fmt::Formatter<W>) -> fmt::Result {
+    fn put<S: Sink>(&self, out: &mut S) {
         for b in self.0 {
-            let n = *b;
-            write!(f, "{n:02x}")?;
+            let mut digits = [0u8; 16];
+            let k = io::hex(u64::from(*b), 2, &mut digits);
+            out.take(&digits[..k]);
         }
-        Ok(())
     }
 }

@@ -1,10 +1,8 @@
 // What the programs write of an event.
-ghost use Rattle.std.specs.Prelude.{Some};
 ghost use Rattle.printing.specs.Text.{step_words, count_words, profile_line, refused_line, waiting_lines};
 
-use crate::{CallLine, Word};
+use crate::{CallLine, Sink, Text, Word};
 use drivers::Call;
-use std::fmt;
 
 // What begins a line: what it is of, and its number.
 #[derive(Clone, Copy)]
@@ -13,13 +11,12 @@ pub struct Step<'a> {
     pub n: usize,
 }
 
-impl fmt::Display for Step<'_> {
-    ghost output = { λ s. Some (step_words s.what.now s.n) };
+impl Text for Step<'_> {
+    ghost text = { λ s. step_words s.what.now s.n };
 
-    fn fmt<W: fmt::Write>(&self, f: &mut fmt::Formatter<W>) -> fmt::Result {
-        let what = self.what;
-        let n = Word(self.n as u64);
-        write!(f, "{what}{n}")
+    fn put<S: Sink>(&self, out: &mut S) {
+        self.what.put(out);
+        Word(self.n as u64).put(out);
     }
 }
 
@@ -30,14 +27,15 @@ pub struct Counts {
     pub calls: usize,
 }
 
-impl fmt::Display for Counts {
-    ghost output = { λ c. Some (count_words c.messages c.calls) };
+impl Text for Counts {
+    ghost text = { λ c. count_words c.messages c.calls };
 
     #[tactic(auto, unfolding(crate::specs::Text::count_words))]
-    fn fmt<W: fmt::Write>(&self, f: &mut fmt::Formatter<W>) -> fmt::Result {
-        let messages = Word(self.messages as u64);
-        let calls = Word(self.calls as u64);
-        write!(f, " done messages{messages} calls{calls}")
+    fn put<S: Sink>(&self, out: &mut S) {
+        " done messages".put(out);
+        Word(self.messages as u64).put(out);
+        " calls".put(out);
+        Word(self.calls as u64).put(out);
     }
 }
 
@@ -45,13 +43,14 @@ impl fmt::Display for Counts {
 #[derive(Clone, Copy)]
 pub struct ProfileRefused(pub u8);
 
-impl fmt::Display for ProfileRefused {
-    ghost output = { λ p. Some (profile_line p.0) };
+impl Text for ProfileRefused {
+    ghost text = { λ p. profile_line p.0 };
 
     #[tactic(auto, unfolding(crate::specs::Text::profile_line))]
-    fn fmt<W: fmt::Write>(&self, f: &mut fmt::Formatter<W>) -> fmt::Result {
-        let why = Word(u64::from(self.0));
-        write!(f, "profile refused{why}\n")
+    fn put<S: Sink>(&self, out: &mut S) {
+        "profile refused".put(out);
+        Word(u64::from(self.0)).put(out);
+        "\n".put(out);
     }
 }
 
@@ -62,14 +61,15 @@ pub struct Refused<'a> {
     pub why: u8,
 }
 
-impl fmt::Display for Refused<'_> {
-    ghost output = { λ r. Some (refused_line r.step.what.now r.step.n r.why) };
+impl Text for Refused<'_> {
+    ghost text = { λ r. refused_line r.step.what.now r.step.n r.why };
 
     #[tactic(auto, unfolding(crate::specs::Text::refused_line))]
-    fn fmt<W: fmt::Write>(&self, f: &mut fmt::Formatter<W>) -> fmt::Result {
-        let step = self.step;
-        let why = Word(u64::from(self.why));
-        write!(f, "{step} refused{why}\n")
+    fn put<S: Sink>(&self, out: &mut S) {
+        self.step.put(out);
+        " refused".put(out);
+        Word(u64::from(self.why)).put(out);
+        "\n".put(out);
     }
 }
 
@@ -80,13 +80,14 @@ pub struct Waiting {
     pub call: Call,
 }
 
-impl fmt::Display for Waiting {
-    ghost output = { λ w. Some (waiting_lines w.n w.call) };
+impl Text for Waiting {
+    ghost text = { λ w. waiting_lines w.n w.call };
 
     #[tactic(auto, unfolding(crate::specs::Text::waiting_lines))]
-    fn fmt<W: fmt::Write>(&self, f: &mut fmt::Formatter<W>) -> fmt::Result {
-        let n = Word(self.n as u64);
-        let call = CallLine(self.call);
-        write!(f, "event{n} waiting\n{call}")
+    fn put<S: Sink>(&self, out: &mut S) {
+        let what = "event";
+        Step { what, n: self.n }.put(out);
+        " waiting\n".put(out);
+        CallLine(self.call).put(out);
     }
 }

@@ -1,6 +1,7 @@
 // Standard output.
-ghost use Rattle.std.specs.Prelude.{◌≡◌, ◌+◌, ◌≤◌, ◌++◌, IsOk, length, take};
+ghost use Rattle.std.specs.Prelude.{◌≡◌, ◌+◌, ◌≤◌, ◌++◌, [], length, take};
 
+use crate::Sink;
 use std::fmt;
 use std::fmt::Write;
 
@@ -8,14 +9,25 @@ const STDOUT_FILENO: i32 = 1;
 
 // What is still to be written, in fixed memory: it goes out when there is no room for more.
 #[derive(Drop)]
-struct Stdout {
+pub struct Stdout {
     bytes: [u8; 4096],
     used: usize,
     ghost within: { used ≤ 4096 },
 }
 
 impl Stdout {
-    fn flush(&mut self)
+    // With nothing to be written.
+    pub fn new() -> Stdout
+        ensures { take result.used result.bytes ≡ [] }
+    {
+        Stdout {
+            bytes: [0; 4096],
+            used: 0,
+        }
+    }
+
+    // Writes what is held. What the system makes of it is not said.
+    pub fn flush(&mut self)
         ensures { self.new.used ≡ 0 }
     {
         io::write_all(STDOUT_FILENO, &self.bytes[..self.used]);
@@ -33,32 +45,34 @@ impl Stdout {
     }
 }
 
-impl fmt::Write for Stdout {
-    fn write_str(&mut self, s: &str) -> fmt::Result
-        ensures all { IsOk result }
-        ensures held { self.old.used + length s.now ≤ 4096 → take self.new.used self.new.bytes ≡ take self.old.used self.old.bytes ++ s.now }
-    {
-        let text = s.as_bytes();
-        if text.len() <= self.bytes.len() - self.used {
-            self.hold(text);
-            return Ok(());
+impl Sink for Stdout {
+    // A piece for which there is room stands behind what is held.
+    ghost takes = { λ old piece new. old.used + length piece ≤ 4096 → take new.used new.bytes ≡ take old.used old.bytes ++ piece };
+
+    fn take(&mut self, piece: &[u8]) {
+        if piece.len() <= self.bytes.len() - self.used {
+            self.hold(piece);
+            return;
         }
         self.flush();
-        if text.len() <= self.bytes.len() {
-            self.hold(text);
+        if piece.len() <= self.bytes.len() {
+            self.hold(piece);
         } else {
-            io::write_all(STDOUT_FILENO, text);
+            io::write_all(STDOUT_FILENO, piece);
         }
+    }
+}
+
+impl fmt::Write for Stdout {
+    fn write_str(&mut self, s: &str) -> fmt::Result {
+        self.take(s.as_bytes());
         Ok(())
     }
 }
 
-// Writes a text to standard output.
+// Writes a text of the programs that only test to standard output.
 pub fn show<D: fmt::Display + Drop>(text: D) {
-    let mut out = Stdout {
-        bytes: [0; 4096],
-        used: 0,
-    };
+    let mut out = Stdout::new();
     // The writer takes all, so that a text ends early only where its own `fmt` gives up.
     out.write(text).unwrap_or(());
     out.flush();

@@ -1,23 +1,23 @@
 // Messages and calls, a line each. The loops over parts of three bytes and of sixteen stay two: one over both would be no plainer.
-ghost use Rattle.std.specs.Prelude.{◌≡◌, ◌≤◌, ◌/◌, Some, length};
+ghost use Rattle.std.specs.Prelude.{◌≡◌, ◌≤◌, ◌/◌, length};
 ghost use Rattle.drivers.specs.Shown.{call_at, calls_in, messages_in};
 ghost use Rattle.printing.specs.Text.{kind_word, call_line, call_lines, message_line, message_lines};
 
-use crate::{Hex, Level, Word};
+use crate::{Hex, Level, Sink, Text, Word};
 use drivers::{Call, Kind};
-use std::fmt;
 
 // A message on a line of its own.
 #[derive(Clone, Copy)]
 pub struct MessageLine<'a>(pub &'a [u8]);
 
-impl fmt::Display for MessageLine<'_> {
-    ghost output = { λ m. Some (message_line m.0.now) };
+impl Text for MessageLine<'_> {
+    ghost text = { λ m. message_line m.0.now };
 
     #[tactic(auto, unfolding(crate::specs::Text::message_line))]
-    fn fmt<W: fmt::Write>(&self, f: &mut fmt::Formatter<W>) -> fmt::Result {
-        let bytes = Hex(self.0);
-        write!(f, "message {bytes}\n")
+    fn put<S: Sink>(&self, out: &mut S) {
+        "message ".put(out);
+        Hex(self.0).put(out);
+        "\n".put(out);
     }
 }
 
@@ -25,15 +25,14 @@ impl fmt::Display for MessageLine<'_> {
 #[derive(Clone, Copy)]
 pub struct Messages<'a>(pub &'a [u8]);
 
-impl fmt::Display for Messages<'_> {
-    ghost output = { λ m. Some (message_lines (messages_in (length m.0.now / 3) m.0.now)) };
+impl Text for Messages<'_> {
+    ghost text = { λ m. message_lines (messages_in (length m.0.now / 3) m.0.now) };
 
     #[tactic(auto, unfolding(crate::specs::Text::message_lines, drivers::specs::Shown::messages_in))]
-    fn fmt<W: fmt::Write>(&self, f: &mut fmt::Formatter<W>) -> fmt::Result {
+    fn put<S: Sink>(&self, out: &mut S) {
         for message in self.0.chunks_exact(3) {
-            f.write(MessageLine(message))?;
+            MessageLine(message).put(out);
         }
-        Ok(())
     }
 }
 
@@ -61,17 +60,18 @@ pub fn kind_name(kind: u8) -> &'static str
 #[derive(Clone, Copy)]
 pub struct CallLine(pub Call);
 
-impl fmt::Display for CallLine {
-    ghost output = { λ c. Some (call_line c.0) };
+impl Text for CallLine {
+    ghost text = { λ c. call_line c.0 };
 
-    fn fmt<W: fmt::Write>(&self, f: &mut fmt::Formatter<W>) -> fmt::Result {
+    fn put<S: Sink>(&self, out: &mut S) {
         let call = self.0;
-        let kind = kind_name(call.kind);
-        let driver = Word(u64::from(call.driver));
-        let name = Word(u64::from(call.name));
-        let argument = Word(u64::from(call.argument));
-        let level = Level(call.level);
-        write!(f, "call {kind}{driver}{name}{argument}{level}\n")
+        "call ".put(out);
+        kind_name(call.kind).put(out);
+        Word(u64::from(call.driver)).put(out);
+        Word(u64::from(call.name)).put(out);
+        Word(u64::from(call.argument)).put(out);
+        Level(call.level).put(out);
+        "\n".put(out);
     }
 }
 
@@ -93,14 +93,13 @@ fn call_of(bytes: &[u8]) -> Call
 #[derive(Clone, Copy)]
 pub struct Calls<'a>(pub &'a [u8]);
 
-impl fmt::Display for Calls<'_> {
-    ghost output = { λ c. Some (call_lines (calls_in (length c.0.now / 16) c.0.now)) };
+impl Text for Calls<'_> {
+    ghost text = { λ c. call_lines (calls_in (length c.0.now / 16) c.0.now) };
 
     #[tactic(auto, unfolding(crate::specs::Text::call_lines, drivers::specs::Shown::calls_in))]
-    fn fmt<W: fmt::Write>(&self, f: &mut fmt::Formatter<W>) -> fmt::Result {
+    fn put<S: Sink>(&self, out: &mut S) {
         for bytes in self.0.chunks_exact(16) {
-            f.write(CallLine(call_of(bytes)))?;
+            CallLine(call_of(bytes)).put(out);
         }
-        Ok(())
     }
 }

@@ -1,5 +1,6 @@
 // What the bridge gets of a use, as text.
 use drivers::{LiveFader, LiveFaders, Names};
+use printing::{Level, Printed};
 use std::fmt;
 
 // By what a use promises: whether it was done, whether a driver says that it plays or not, or what a driver gave, if it did.
@@ -45,7 +46,7 @@ impl fmt::Display for Got {
             Got::Playing(true) => f.write_str(" yes-no"),
             Got::Playing(false) => f.write_str(" no"),
             Got::Level(Some(x)) => {
-                let bits = printing::Level(float::to_bits(*x));
+                let bits = Printed(Level(float::to_bits(*x)));
                 write!(f, " level{bits}")
             }
             Got::Index(Some(i)) => write!(f, " index {i}"),

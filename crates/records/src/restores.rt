@@ -1,5 +1,5 @@
 // A restore, what the session has of it, and the records that follow from the session.
-use printing::Hex;
+use printing::{Hex, Printed};
 use session::{Lamps, Session};
 use state::Refusal;
 use std::fmt;
@@ -32,7 +32,7 @@ impl fmt::Display for Saved<'_> {
         let mut out = [0u8; 136];
         match state::saved_records(self.session, self.profile, &mut out) {
             Ok(count) => {
-                let records = Hex(&out[..8 * count.min(17)]);
+                let records = Printed(Hex(&out[..8 * count.min(17)]));
                 write!(f, " saved {count} {records}")
             }
             Err(cause) => {

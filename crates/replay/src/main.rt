@@ -14,7 +14,7 @@ mod view;
 ghost use Rattle.std.specs.Prelude.{◌≡◌, length};
 
 use play::Play;
-use printing::ProfileRefused;
+use printing::{Printed, ProfileRefused};
 use recording::{Step, number, part};
 use std::rt::Env;
 
@@ -53,7 +53,7 @@ fn one_case(dump: bool) -> Option<()> {
     match profile::examine(profile) {
         Ok(()) => run_steps(Play::fresh(dump, profile), steps),
         Err(cause) => {
-            printing::show(ProfileRefused(cause.number()));
+            printing::show(Printed(ProfileRefused(cause.number())));
             pass_steps(steps)
         }
     }

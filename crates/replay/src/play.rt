@@ -7,7 +7,7 @@ use crate::recording::{Kind, Step};
 use crate::told;
 use crate::view::View;
 use delivery::Outcome;
-use printing::{Hex, Refused};
+use printing::{Hex, Printed, Refused};
 use session::Session;
 
 // A session over its profile, and whether all of it is printed.
@@ -61,7 +61,7 @@ impl<'a> Play<'a> {
     fn show_saved(&self) {
         let mut bytes = [0u8; 136];
         let count = self.save(&mut bytes);
-        let saved = Hex(&bytes[..8 * count]);
+        let saved = Printed(Hex(&bytes[..8 * count]));
         printing::show(format_args!("saved {saved}\n"));
     }
 
@@ -75,7 +75,7 @@ impl<'a> Play<'a> {
             Err(cause) => {
                 let step = printing::Step { what: "restore", n };
                 let why = cause.number();
-                printing::show(Refused { step, why });
+                printing::show(Printed(Refused { step, why }));
             }
         }
     }
@@ -89,7 +89,7 @@ impl<'a> Play<'a> {
         if self.dump {
             printing::show(view);
         } else {
-            let hash = view.hash();
+            let hash = Printed(view.hash());
             printing::show(format_args!("session{hash}\n"));
         }
     }

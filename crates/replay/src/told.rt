@@ -4,7 +4,7 @@ ghost use Rattle.delivery.specs.Delivery.{told};
 ghost use Rattle.bridge.specs.Bridge.{Few};
 
 use delivery::Outcome;
-use printing::{Calls, Counts, Messages, Refused, Step, Waiting};
+use printing::{Calls, Counts, Messages, Printed, Refused, Step, Waiting};
 
 // What became of event n, with the messages and the calls of a done one. There are at most 102 messages and 337 calls.
 pub fn show(n: usize, outcome: Outcome, messages: &[u8], calls: &[u8])
@@ -20,19 +20,20 @@ pub fn show(n: usize, outcome: Outcome, messages: &[u8], calls: &[u8])
             used,
             saved,
         } => {
-            let counts = Counts {
+            let counts = Printed(Counts {
                 messages: sent,
                 calls: asked,
-            };
+            });
+            let step = Printed(step);
             let saved = u8::from(saved);
-            let sent = Messages(&messages[..3 * sent]);
-            let asked = Calls(&calls[..16 * asked]);
+            let sent = Printed(Messages(&messages[..3 * sent]));
+            let asked = Printed(Calls(&calls[..16 * asked]));
             printing::show(format_args!("{step}{counts} used {used} saved {saved}\n{sent}{asked}"));
         }
         Outcome::Refused(cause) => {
             let why = cause.number();
-            printing::show(Refused { step, why });
+            printing::show(Printed(Refused { step, why }));
         }
-        Outcome::Waiting(call) => printing::show(Waiting { n, call }),
+        Outcome::Waiting(call) => printing::show(Printed(Waiting { n, call })),
     }
 }

@@ -2,28 +2,28 @@
 
 // The program of document 01: profile.bin, events.bin and answers.bin, the first 65,536 bytes of each, and what becomes of each event.
 //
-// The text of an event is proved to be the definition's (`specs/Said`), and so is what is kept and used; that `printing::show` and the system write all of a text is
-// tested and not proved.
+// What is written of an event is proved to be the definition's text of it (`specs/Said`), and so is what is kept and used; that the system writes what it is handed
+// is not.
 mod told;
 
 ghost use Rattle.std.specs.Prelude.{◌*◌, ◌≤◌, ◌≡◌, cond, length, Some, None, IfSome};
+ghost use Rattle.std.specs.Fmt.{WritesInCalls};
 ghost use Rattle.definition.specs.Step.{seen};
 ghost use Rattle.definition.specs.Whole.{whole};
 ghost use Rattle.delivery.specs.Delivery.{told as told_by, told_done, outcome_of, is_done};
 ghost use Rattle.bridge.specs.Bridge.{used_in};
-ghost use Rattle.run.specs.Said.{outcome_text, event_text};
+ghost use Rattle.run.specs.Said.{event_text};
 
 use delivery::Outcome;
-use printing::ProfileRefused;
+use printing::{ProfileRefused, Sink, Stdout, Text};
 use session::Session;
 use std::fs::File;
 use std::os::fd::AsRawFd;
 use told::Told;
 
-// What one event came to: its text, the session behind it, and how many answers it used where the next event may follow.
-#[derive(Drop)]
+// What one event came to: the session behind it, and how many answers it used where the next event may follow.
+#[derive(Clone, Copy)]
 struct Next {
-    told: Told,
     session: Session,
     used: Option<usize>,
 }
@@ -47,10 +47,16 @@ fn used_by(outcome: Outcome) -> Option<usize>
     }
 }
 
-// Runs event n.
-fn one(n: usize, session: Session, profile: &[u8], event: &[u8], answers: &[u8]) -> Next
-    ensures text { outcome_text n (told_by result.told.outcome) result.told.messages result.told.calls ≡ event_text n (whole profile.now session event.now answers.now 306 5392).ended }
-    ensures number { result.told.n ≡ n }
+// Runs event n, and says what became of it.
+fn one<S: Sink>(
+    out: &mut S,
+    n: usize,
+    session: Session,
+    profile: &[u8],
+    event: &[u8],
+    answers: &[u8],
+) -> Next
+    ensures out_after { WritesInCalls S.takes out.old (event_text n (whole profile.now session event.now answers.now 306 5392).ended) out.new }
     ensures session_value { seen profile.now result.session ≡ (whole profile.now session event.now answers.now 306 5392).kept }
     ensures used_value { result.used ≡ cond (is_done (whole profile.now session event.now answers.now 306 5392).ended) (Some (used_in (outcome_of (whole profile.now session event.now answers.now 306 5392).ended))) None }
     ensures used_in_bounds { IfSome result.used (λ used. 16 * used ≤ length answers.now) }
@@ -59,25 +65,25 @@ fn one(n: usize, session: Session, profile: &[u8], event: &[u8], answers: &[u8])
     let mut calls = [0u8; 5392];
     let r = bridge::step(session, profile, event, answers, &mut messages, &mut calls);
     let outcome = r.outcome;
+    let told = Told {
+        n,
+        outcome,
+        messages,
+        calls,
+    };
+    told.put(out);
     Next {
-        told: Told {
-            n,
-            outcome,
-            messages,
-            calls,
-        },
         session: r.session,
         used: used_by(outcome),
     }
 }
 
 // Runs the events in turn, each on the answers that those before it left. The last event may be incomplete.
-fn all(profile: &[u8], events: &[u8], answers: &[u8]) {
+fn all<S: Sink>(out: &mut S, profile: &[u8], events: &[u8], answers: &[u8]) {
     let mut session = session::fresh();
     let mut left = answers;
     for (n, event) in events.chunks(16).enumerate() {
-        let next = one(n, session, profile, event, left);
-        printing::show(&next.told);
+        let next = one(out, n, session, profile, event, left);
         let Some(used) = next.used else {
             return;
         };
@@ -93,8 +99,10 @@ fn main(rt: HostRuntime) {
     let profile = load(&rt, "profile.bin", &mut profile_room);
     let events = load(&rt, "events.bin", &mut events_room);
     let answers = load(&rt, "answers.bin", &mut answers_room);
+    let mut out = Stdout::new();
     match profile::examine(profile) {
-        Ok(()) => all(profile, events, answers),
-        Err(cause) => printing::show(ProfileRefused(cause.number())),
+        Ok(()) => all(&mut out, profile, events, answers),
+        Err(cause) => ProfileRefused(cause.number()).put(&mut out),
     }
+    out.flush();
 }

@@ -1,13 +1,11 @@
 // What is written of an event.
-ghost use Rattle.std.specs.Prelude.{Some};
 ghost use Rattle.delivery.specs.Delivery.{told as told_by};
 ghost use Rattle.bridge.specs.Bridge.{Few};
 ghost use Rattle.run.specs.FewLaws.{few_prop};
 ghost use Rattle.run.specs.Said.{outcome_text};
 
 use delivery::Outcome;
-use printing::{Calls, Counts, Messages, Refused, Step, Waiting};
-use std::fmt;
+use printing::{Calls, Counts, Messages, Refused, Sink, Step, Text, Waiting};
 
 // What became of event n, with the messages and the calls of a done one. There are at most 102 messages and 337 calls.
 #[derive(Drop)]
@@ -19,30 +17,29 @@ pub struct Told {
     ghost few: { Few (told_by outcome) } by { few_prop (told_by outcome) },
 }
 
-impl fmt::Display for Told {
-    ghost output = { λ t. Some (outcome_text t.n (told_by t.outcome) t.messages t.calls) };
+impl Text for Told {
+    ghost text = { λ t. outcome_text t.n (told_by t.outcome) t.messages t.calls };
 
-    fn fmt<W: fmt::Write>(&self, f: &mut fmt::Formatter<W>) -> fmt::Result {
-        let step = Step {
-            what: "event",
-            n: self.n,
-        };
+    fn put<S: Sink>(&self, out: &mut S) {
+        let n = self.n;
+        let step = Step { what: "event", n };
         match self.outcome {
             Outcome::Done {
                 messages,
                 calls,
                 ..
             } => {
-                let counts = Counts { messages, calls };
-                let sent = Messages(&self.messages[..3 * messages]);
-                let asked = Calls(&self.calls[..16 * calls]);
-                write!(f, "{step}{counts}\n{sent}{asked}")
+                step.put(out);
+                Counts { messages, calls }.put(out);
+                "\n".put(out);
+                Messages(&self.messages[..3 * messages]).put(out);
+                Calls(&self.calls[..16 * calls]).put(out);
             }
             Outcome::Refused(cause) => {
                 let why = cause.number();
-                f.write(Refused { step, why })
+                Refused { step, why }.put(out);
             }
-            Outcome::Waiting(call) => f.write(Waiting { n: self.n, call }),
+            Outcome::Waiting(call) => Waiting { n, call }.put(out),
         }
     }
 }

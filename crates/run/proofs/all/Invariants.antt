@@ -3,5 +3,5 @@ use Rattle.std.proofs.Common.{◌≤◌, length}
 use Rattle.run.proofs.all.Given as goal
 
 abbrev pub invariant-loop-n : goal.invariant-loop-n
-invariant-loop-n l =
-    (goal.iterator-loop-n).can_next l.n-iterator × (goal.iterator-loop-n).is_finite l.n-iterator × (length l.left ≤ length l.answers)
+invariant-loop-n g l =
+    (goal.iterator-loop-n g).can_next l.n-iterator × (goal.iterator-loop-n g).is_finite l.n-iterator × (length l.left ≤ length l.answers)

@@ -1,16 +1,15 @@
 #![tactic(auto)]
 
 // Selecting a bank: `select_bank`, `step_bank` and `flash_bank` of bridge.rs. `there` is the bank that becomes the current one.
-ghost use Rattle.std.specs.Prelude.{◌≡◌, ◌<◌};
+ghost use Rattle.std.specs.Prelude.{◌≡◌, ◌<◌, eqb};
 ghost use Rattle.profile.specs.Profile.{bank_count};
 ghost use Rattle.drivers.specs.Talk.{got};
 ghost use Rattle.drivers.specs.Shown.{shown};
 ghost use Rattle.definition.specs.Lamps.{push_state};
 ghost use Rattle.definition.specs.Flash.{flash_bank};
-ghost use Rattle.definition.specs.Banks.{selected_as, next_bank};
+ghost use Rattle.definition.specs.Banks.{selected_as, next_bank, select_if};
 ghost use Rattle.rig.specs.Seen.{rig_in};
 ghost use Rattle.surface.specs.Panel.{LampsAlone};
-ghost use Rattle.banks.specs.Steps.{Steps};
 
 use drivers::Io;
 use rig::Current;
@@ -52,9 +51,9 @@ pub fn next_bank(profile: &[u8], bank: u8, right: bool) -> u8
     }
 }
 
-// One bank on: `there` is the next bank on that side. Whether it was selected.
+// One bank on: `there` is the next bank on that side, which at an end is the current one, and then nothing happens. Whether it was selected.
 pub fn step_bank(io: &mut Io<'_>, bank: u8, there: &Current<'_>, panel: &mut Panel<'_>) -> bool
-    ensures value { Steps (bank_count there.now.profile.now) bank (rig_in there.now) panel.old.lamps panel.old.hushed.now panel.old.moves.now panel.old.time (shown io.old) (got (selected_as there.now.bank panel.new.lamps result) (shown io.new)) }
+    ensures value { got (selected_as there.now.bank panel.new.lamps result) (shown io.new) ≡ select_if (eqb there.now.bank bank) (λ _. rig_in there.now) bank there.now.bank panel.old.hushed.now panel.old.moves.now panel.old.time panel.old.lamps (shown io.old) }
     ensures rest { LampsAlone panel.old panel.new }
 {
     if there.bank == bank {

@@ -7,7 +7,7 @@ use native.Mathlib.Omega.{arith}
 use lib.Dec.{eqb, ltb}
 use lib.ListN.{length, length-map, length-append}
 use borrow.Author.Tests.{ltb-true, lt-leb}
-use Rattle.std.proofs.Common.{None, Option, Some}
+use Rattle.std.proofs.Common.{Float, None, Option, Some}
 use Rattle.base.specs.Choice.{pick}
 use Rattle.base.specs.Keyed.{no_twice}
 use Rattle.profile.specs.Profile.{bank_count}
@@ -20,15 +20,16 @@ use Rattle.definition.specs.Rig.{Rig, destination}
 use Rattle.definition.specs.Levels.{kept_by, has_mute}
 use Rattle.definition.specs.Lamps.{push_state}
 use Rattle.definition.specs.Flash.{flash_bank}
-use Rattle.definition.specs.Banks.{selected_as, next_bank, step_left, select_bank}
+use Rattle.definition.specs.Banks.{selected_as, next_bank, step_left, select_if, select_bank, step_if, step_bank}
 use Rattle.definition.specs.Muting.{adding, added_by_mute}
 use Rattle.definition.specs.Buttons.{walk, select_as}
 use Rattle.definition.specs.SilencingLaws.{held, adding_covers, room_within, once_keys}
+use Rattle.session.specs.declared.Lamps.{Lamps}
+use Rattle.session.specs.declared.Moves.{Moves}
 use Rattle.rig.specs.Seen.{rig_in}
 use Rattle.rig.specs.declared.current.Current.{Current}
 use Rattle.surface.specs.declared.panel.Panel.{Panel}
 use Rattle.mutes.specs.Held.{room_at}
-use Rattle.banks.specs.Steps.{Steps}
 use Rattle.bridge.specs.Presses.{selected_by, PressesThere}
 use Rattle.bridge.specs.declared.buttons.Pressed.{Pressed}
 
@@ -47,6 +48,16 @@ next_low true banks bank h = go (ltb (bank + 1) banks) refl
     go : (b : Bool) → ltb (bank + 1) banks ≡ b → pick b (bank + 1) bank < banks
     go true e = ltb-true (bank + 1) banks e
     go false e = h
+
+-- one bank on is to select the bank that is reached, unless it is the current one
+step_is : (right : Bool) (rig_at : ℕ → Rig) (r : Rig) (banks bank i : ℕ) (s : List ℕ) (m : Moves) (now : Float) (l : Lamps) (t : Talk) →
+    next_bank right banks bank ≡ i → rig_at i ≡ r → i < banks → step_bank right rig_at banks bank s m now l t ≡ select_if (eqb i bank) (λ n. r) bank i s m now l t
+unfolding step_bank select_bank
+step_is right rig_at r banks bank i s m now l t e a b = rw e (go (eqb i bank))
+  where
+    go : (c : Bool) → step_if c rig_at banks bank i s m now l t ≡ select_if c (λ n. r) bank i s m now l t
+    go true = refl
+    go false = rw (lt-leb banks i b, a) refl
 
 -- ── presses that leave the silenced levels alone ──
 
@@ -67,15 +78,15 @@ module _ (here there : Current) (a b : Panel) (t u : Talk) where
 
   pub walks : (right done : Bool) → there.profile.now ≡ here.profile.now → here.bank < bank_count here.profile.now →
       there.bank ≡ next_bank right (bank_count here.profile.now) here.bank →
-      Steps (bank_count there.profile.now) here.bank (rig_in there) a.lamps a.hushed.now a.moves.now a.time t (got (selected_as there.bank b.lamps done) u) →
+      got (selected_as there.bank b.lamps done) u
+      ≡ select_if (eqb there.bank here.bank) (λ n. rig_in there) here.bank there.bank a.hushed.now a.moves.now a.time a.lamps t →
       PressesThere (walk right) here there a b t (moved there.bank done) u
   unfolding next
   walks right done same low to f rig_at s q i j =
       let banks : ℕ = bank_count here.profile.now in
       let in-profile : there.bank < banks = subst (λ n. n < banks) (sym to) (next_low right banks here.bank low) in
-      let g : Steps banks here.bank (rig_in there) a.lamps a.hushed.now a.moves.now a.time t (got (selected_as there.bank b.lamps done) u) =
-      subst (λ p. Steps (bank_count p) here.bank (rig_in there) a.lamps a.hushed.now a.moves.now a.time t (got (selected_as there.bank b.lamps done) u)) same f in
-      rw (q, ← g right rig_at (sym to) j in-profile)
+      let g = f ∙ sym (step_is right rig_at (rig_in there) banks here.bank there.bank a.hushed.now a.moves.now a.time a.lamps t (sym to) j in-profile) in
+      rw (q, ← g)
 
 -- ── mute ──
 

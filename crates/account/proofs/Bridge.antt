@@ -14,7 +14,7 @@ use Rattle.base.specs.Choice.{pick}
 use Rattle.base.specs.Keyed.{change}
 use Rattle.base.specs.Range.{all}
 use Rattle.float.specs.Leaf.{nudge}
-use Rattle.protocol.specs.Protocol.{sent_to}
+use Rattle.protocol.specs.Protocol.{sent_to, kind_of}
 use Rattle.protocol.specs.declared.Event.{Event}
 use Rattle.protocol.specs.declared.Event.TheVariants as event
 use Rattle.lookup.specs.Lookup.{same_dest}
@@ -33,12 +33,13 @@ use Rattle.definition.specs.Rig.{Rig, destination, encoder_dest, with_strips}
 use Rattle.definition.specs.Levels.{read, write}
 use Rattle.definition.specs.Faders.{Desk, desk, is_held, hold_move, take_move, moved_if, fader_if, fader_to, fader, turn_to, encoder, is_zero, nudge_from, nudge_if, apply_nudge, nudges, align_if, write_move, writes, drain, drained}
 use Rattle.definition.specs.Live.{Refreshed, same_as, change_if, ask_if, refresh_live, refresh_due, is_due}
-use Rattle.definition.specs.Buttons.{button}
+use Rattle.definition.specs.Buttons.{Press, button}
 use Rattle.definition.specs.Step.{Site, Kept, kept, Left, unmarked, press_at, on_button, on_midi, unmarked_at, lives_after, site_after, tick_with, tick, act}
-use Rattle.account.specs.Account.{opens, Account, Waits, Drain, Drained, Each, no_more, one_more, reading, rig_in, lined, book_if, book_move, summed, book_turn, book_press, selects, same_live, live_at, book_live, book_drain, book_event, tried_of, try_at, drain_of, reading_of, read_as, writing, Uses, used, opened-used, not-used, Tries, tried-all, tried-one, Nudges, nudged-all, zero_sum, not-read, nudged, Only, no_call, one-call, not_write, in_session, tick_in, moved_in}
+use Rattle.account.specs.Account.{opens, Account, Waits, Drain, Drained, Each, no_more, one_more, reading, rig_in, held_by_rule, lined, book_if, book_move, summed, book_turn, book_press, selects, same_live, live_at, book_live, book_drain, book_event, tried_of, try_at, drain_of, reading_of, read_as, writing, Uses, used, opened-used, not-used, Tries, tried-all, tried-one, Nudges, nudged-all, zero_sum, not-read, nudged, Only, no_call, one-call, not_write, in_session, tick_in, other_in}
 use Rattle.account.proofs.Grown.{Grown, Goes, same, weaken, join, send_ok, use_ok}
 use Rattle.account.proofs.Frame.{only_append, makes_push, makes_flash_bank, makes_tick_flash, makes_refresh, makes_transport}
-use Rattle.account.proofs.Presses.{button_ok_lem}
+use Rattle.account.proofs.HeldRule.{held_rule, reads_so}
+use Rattle.account.proofs.Presses.{button_ok_lem, button_quiet}
 
 -- the desk that an account stands for
 abbrev pub desk_of : Account → Desk
@@ -91,6 +92,17 @@ module _ (key : ℕ) (m : Waits) (a : Account) (answers : List ℕ) where
   Moved f r =
       Goes r.talk → Grown (λ l. (r.value ≡ desk_of (book_move f key m answers a)) × Only not_write l) (start answers a.opened) r.talk
 
+  -- held by the account's rule where the definition holds it
+  held_booked : (d : Destination) →
+      moved_if (is_held (read d (start answers a.opened)).value (last_move key a.last) m.level) key m.channel m.level (desk_of a) ≡
+      desk_of (book_if (held_by_rule (last_move key a.last) (reading d answers a.opened) d.low d.high m.level) key m a)
+  held_booked d =
+      let held = held_by_rule (last_move key a.last) (reading d answers a.opened) d.low d.high m.level in
+      let e : is_held (read d (start answers a.opened)).value (last_move key a.last) m.level ≡ held =
+      ap (λ (c : Option Float). is_held c (last_move key a.last) m.level) (reads_so d answers a.opened)
+      ∙ sym (held_rule d (last_move key a.last) (reading d answers a.opened) m.level) in
+      ap (λ (b : Bool). moved_if b key m.channel m.level (desk_of a)) e ∙ moved_booked held key m a
+
   fader_to_lem : (f : Option Destination) → Moved f (fader_to f key m.channel m.level (desk_of a) (start answers a.opened))
   unfolding Moved next reading
   fader_to_lem None g = same _ _ g (refl, no_call)
@@ -98,11 +110,11 @@ module _ (key : ℕ) (m : Waits) (a : Account) (answers : List ℕ) where
     where
       at : (b : Bool) → Goes (fader_if b d key m.channel m.level (desk_of a) (start answers a.opened)).talk →
           Grown (λ l. ((fader_if b d key m.channel m.level (desk_of a) (start answers a.opened)).value ≡
-          desk_of (book_if (b && is_held (reading d answers a.opened) (last_move key a.last) m.level) key m a)) × Only not_write l)
+          desk_of (book_if (b && held_by_rule (last_move key a.last) (reading d answers a.opened) d.low d.high m.level) key m a)) × Only not_write l)
           (start answers a.opened) (fader_if b d key m.channel m.level (desk_of a) (start answers a.opened)).talk
       at true e =
           weaken
-          (λ l h. (moved_booked (is_held (reading d answers a.opened) (last_move key a.last) m.level) key m a, read_only d h.uses))
+          (λ l h. (held_booked d, read_only d h.uses))
           (read_ok d (start answers a.opened) e)
       at false e = same _ _ e (moved_booked false key m a, no_call)
 
@@ -247,7 +259,7 @@ pub record Booked (v : View) (i : ℕ) (w : Site) (a : Account) (e : Input) (ans
   pub desk : x.desk ≡ desk_of (book_event v i e w x.site answers (paired calls answers) a)
   pub opened : o ≡ opens (paired calls answers) a.opened
   pub drains : Each Drained (tick_in e (paired calls answers)) (drain_in e (rig_in v w) a)
-  pub quiet : Only not_write (moved_in e (paired calls answers))
+  pub quiet : Only not_write (other_in e (paired calls answers))
   pub placed : Placed x.site
 
 abbrev pub Books : View → ℕ → Site → Account → Input → List ℕ → Got Left → Type 0
@@ -259,6 +271,17 @@ begun answers o t g = g.opened ∙ rw g.calls
 
 begun_fact : {P : List Asked → Type 0} (answers : List ℕ) (o : List Bool) (t : Talk) → Grown P (start answers o) t → P (paired t.calls answers)
 begun_fact answers o t g = rw g.calls g.fact
+
+-- a press that is neither mute nor solo writes nothing
+press_silent : (p : Press) (note : ℕ) (answers : List ℕ) (o : List Bool) → Goes (button note p (start answers o)).talk →
+    Only not_write (pick (eqb (kind_of note) 2 || eqb (kind_of note) 1) [] (paired (button note p (start answers o)).talk.calls answers))
+press_silent p note answers o g = go (eqb (kind_of note) 2) (eqb (kind_of note) 1) refl refl
+  where
+    go : (b c : Bool) → eqb (kind_of note) 2 ≡ b → eqb (kind_of note) 1 ≡ c →
+        Only not_write (pick (b || c) [] (paired (button note p (start answers o)).talk.calls answers))
+    go true c m s = no_call
+    go false true m s = no_call
+    go false false m s = begun_fact {P = Only not_write} answers o _ ((button_quiet p note m s).grown (start answers o) g)
 
 turn-summed : (d : Destination) (n : ℤ) (l : List Turn) → turn d n l ≡ summed d n l
 unfolding turn change summed
@@ -360,7 +383,7 @@ module _ (v : View) (i : ℕ) (w : Site) (l : Lamps) (s : List Hushed) (a : Acco
             desk = unmarked_booked r.value.moved _ a (begun_fact answers a.opened r.talk g);
             opened = begun answers a.opened r.talk g;
             drains = no_more;
-            quiet = no_call;
+            quiet = press_silent (press_at v kept_of now) b.note answers a.opened e;
             placed = record { bank = c.bank (start answers a.opened); lives = there.lives };
           }
       at false e = record { desk = refl; opened = refl; drains = no_more; quiet = no_call; placed = there }
@@ -371,11 +394,11 @@ module _ (v : View) (i : ℕ) (w : Site) (l : Lamps) (s : List Hushed) (a : Acco
   act_ok (input.Midi e) g = midi_ok e g
   act_ok input.Tick g = tick-due (is_due w.due w.at now) g
   act_ok input.PushState g =
-      let h = (makes_push {K = λ k. true} refl refl (rig_in v w) l (targets_of s)).grown (start answers a.opened) g in
-      record { desk = refl; opened = begun answers a.opened _ h; drains = no_more; quiet = no_call; placed = there }
+      let h = (makes_push {K = not_write} refl refl (rig_in v w) l (targets_of s)).grown (start answers a.opened) g in
+      record { desk = refl; opened = begun answers a.opened _ h; drains = no_more; quiet = begun_fact {P = Only not_write} answers a.opened _ h; placed = there }
   act_ok input.PushTransport g =
-      let h = (makes_transport {K = λ k. true} refl refl (rig_in v w)).grown (start answers a.opened) g in
-      record { desk = refl; opened = begun answers a.opened _ h; drains = no_more; quiet = no_call; placed = there }
+      let h = (makes_transport {K = not_write} refl refl (rig_in v w)).grown (start answers a.opened) g in
+      record { desk = refl; opened = begun answers a.opened _ h; drains = no_more; quiet = begun_fact {P = Only not_write} answers a.opened _ h; placed = there }
   act_ok input.FlashBank g =
-      let h = (makes_flash_bank {K = λ k. true} refl refl (rig_in v w) (targets_of s) a.last now l).grown (start answers a.opened) g in
-      record { desk = refl; opened = begun answers a.opened _ h; drains = no_more; quiet = no_call; placed = there }
+      let h = (makes_flash_bank {K = not_write} refl refl (rig_in v w) (targets_of s) a.last now l).grown (start answers a.opened) g in
+      record { desk = refl; opened = begun answers a.opened _ h; drains = no_more; quiet = begun_fact {P = Only not_write} answers a.opened _ h; placed = there }

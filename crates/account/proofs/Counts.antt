@@ -2,7 +2,7 @@
 use Rattle.std.proofs.Common.{None, Option, Some}
 use Prim.Native.Nat.{ℕ, suc, ◌+◌, ◌*◌, ◌≤◌, ◌<◌}
 use mathlib.Core.Path.{◌≡◌, refl, sym, ap, ◌∙◌}
-use mathlib.Core.Bool.{Bool, true, false, not, ◌&&◌, beq}
+use mathlib.Core.Bool.{Bool, true, false, beq}
 use mathlib.Core.List.{List, [], ◌∷◌, ◌++◌, map, append-nil, append_assoc}
 use native.Mathlib.Omega.{arith}
 use lib.Dec.{eqb}
@@ -17,13 +17,12 @@ use Rattle.lookup.specs.Lookup.{same_dest}
 use Rattle.lookup.specs.View.{View}
 use Rattle.lookup.specs.declared.Destination.{Destination}
 use Rattle.drivers.specs.Paired.{Asked}
-use Rattle.session.specs.Session.{Turn, is_marked, last_move, add_to}
+use Rattle.session.specs.Session.{Turn, add_to}
 use Rattle.event.specs.declared.Input.{Input}
 use Rattle.event.specs.declared.Input.TheVariants as input
 use Rattle.definition.specs.Rig.{Rig, destination, encoder_dest}
-use Rattle.definition.specs.Faders.{is_held}
 use Rattle.definition.specs.Step.{Site}
-use Rattle.account.specs.Account.{Past, Account, Waits, Tried, Drain, reading, rig_in, lined, replaced_by, book_if, book_move, summed, book_turn, book_press, press_moves, book_live, book_drain, book_event, drain_of, same_live, live_at, tried_of, try_at, dropped_of, drop_at, ids, tried_ids, tried, handed, bump, count, moves, move_at, move_in, if_found, if_same, sum_for, turn_in, turn_to}
+use Rattle.account.specs.Account.{Past, Account, Waits, Tried, Drain, rig_in, lined, replaced_by, book_if, holds, book_move, summed, book_turn, book_press, press_moves, book_live, book_drain, book_event, drain_of, same_live, live_at, tried_of, try_at, dropped_of, drop_at, ids, tried_ids, tried, handed, bump, count, moves, move_at, move_in, if_found, if_same, sum_for, turn_in, turn_to}
 use Rattle.account.proofs.FloatEq.{beq_true, eq_cong}
 
 -- ── counting ──
@@ -118,7 +117,7 @@ module _ (v : View) (n : ℕ) (w z : Site) (answers : List ℕ) (asked : List As
       go : (f : Option Destination) → fates (book_move f (w.bank * 16 + ch) m answers a) i ≡ fates a i + count i (if_found f n)
       go None = omega arith
       go (Some d) =
-          booked_move ((d.takeover && not (is_marked (w.bank * 16 + ch) a.marks)) && is_held (reading d answers a.opened) (last_move (w.bank * 16 + ch) a.last) x) (w.bank * 16 + ch) m a i
+          booked_move (holds d (w.bank * 16 + ch) m answers a) (w.bank * 16 + ch) m a i
   fates_event (input.Midi (event.Encoder ch k)) = go (encoder_dest (rig_in v w) (ch + 1))
     where
       go : (f : Option Destination) → fates (book_turn f k a) i ≡ fates a i + 0
@@ -277,7 +276,7 @@ module _ (v : View) (n : ℕ) (w z : Site) (answers : List ℕ) (asked : List As
       go : (f : Option Destination) → total (book_move f (w.bank * 16 + ch) m answers a) d ≡ total a d
       go None = refl
       go (Some y) =
-          total-move ((y.takeover && not (is_marked (w.bank * 16 + ch) a.marks)) && is_held (reading y answers a.opened) (last_move (w.bank * 16 + ch) a.last) x) (w.bank * 16 + ch) m a d
+          total-move (holds y (w.bank * 16 + ch) m answers a) (w.bank * 16 + ch) m a d
   total_event (input.Midi (event.Encoder ch k)) = go (encoder_dest (rig_in v w) (ch + 1))
     where
       go : (f : Option Destination) → total (book_turn f k a) d ≡ total a d +ℤ sum_for d (turn_to f k)

@@ -1,3 +1,4 @@
+pub mod HeldRule
 pub mod Grown
 pub mod Frame
 pub mod Presses

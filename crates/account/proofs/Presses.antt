@@ -1,4 +1,5 @@
--- A press: it selects a bank exactly where the account says so, and loads a scene exactly where a load of its calls was answered done.
+-- A press: it selects a bank exactly where the account says so, and loads a scene exactly where a load of its calls was answered done. One that is neither
+-- mute nor solo writes nothing.
 use Rattle.std.proofs.Common.{None, Option, Some}
 use Prim.Native.Nat.{ℕ, zero, suc, ◌+◌, ◌-◌, ◌≤◌, ◌<◌}
 use mathlib.Core.Path.{◌≡◌, refl, sym, ap, subst, ◌∙◌}
@@ -24,16 +25,178 @@ use Rattle.definition.specs.Levels.{write, has_mute, kept_by}
 use Rattle.definition.specs.Muting.{hand_back, keep_level, zeroed, mute_level, mute_if, mute_to, mute, toggle_if, set_mute, peer, back_if, off_if, off_to, solo_off, note_mutes, note_if, silence_if, on_level, on_if, on_to, solo_on, solo_if, solo_with, solo}
 use Rattle.definition.specs.Scenes.{Paged, paged, Loaded, Started, names_on, names_if, scene_names, on_list, on_device_if, scene_on_device, load_if, load_on, loaded_if, load_at_if, load_scene_at, start_if, start, shown_if, page_if, step_scene_if, step_scene, scene_if, scene, is_at, next_scene}
 use Rattle.definition.specs.Banks.{select_if, select_bank, next_bank, step_if, step_bank}
-use Rattle.definition.specs.Buttons.{Press, Pressed, pressed, of_bank, offered_if, default_of, default_button, run_bound, run_else, run_command, rec_if, rec_loads, bank_of, page, walk, command, rec_as, rec, select_as, mute_as, solo_as, or_first, press_of, button}
-use Rattle.account.specs.Account.{answer_in, loads, is_load, steps, Uses, used, opened-used, not-used, Only, no_call, one-call}
+use Rattle.definition.specs.Buttons.{Press, Pressed, pressed, of_scene, of_bank, offered_if, default_of, default_button, run_bound, run_else, run_command, rec_if, rec_loads, bank_of, page, walk, command, rec_as, rec, select_as, mute_as, solo_as, or_first, press_of, button}
+use Rattle.account.specs.Account.{answer_in, loads, is_load, steps, Uses, used, opened-used, not-used, Only, no_call, one-call, not_write}
 use Rattle.account.proofs.Grown.{Grown, Goes, weaken, join, use_ok}
 use Rattle.account.proofs.Frame.{Makes, Asks, stay, still, giving, line_of, behind, onto, bind, makes_open, makes_use, makes_done, makes_read, makes_read_mute, makes_muted_to, makes_push, makes_number, makes_flash_bank}
 use Rattle.lookup.specs.declared.Command.{Command}
 
+-- ── for every test of calls that passes what a press asks beside its writes, toggles and loads ──
+
+pub record Lets (K : ℕ → Bool) : Type 0 where
+  pub opens : K 0 ≡ true
+  pub reads : K 1 ≡ true
+  pub commands : K 4 ≡ true
+  pub scenes : K 6 ≡ true
+  pub current : K 7 ≡ true
+
+module _ {K : ℕ → Bool} (k : Lets K) where
+  makes_command : (driver name c : ℕ) → Asks K (command_of driver name c)
+  unfolding command_of plain_call
+  makes_command driver name c = makes_done k.opens (plain_call 4 driver name c) refl k.commands
+
+  makes_scenes : (driver : ℕ) → Asks K (scenes_of driver)
+  unfolding scenes_of plain_call
+  makes_scenes driver = bind (makes_use k.opens (plain_call 6 driver 0 0) refl k.scenes) (λ r. still)
+
+  makes_current : (driver : ℕ) → Asks K (current_of driver)
+  unfolding current_of plain_call
+  makes_current driver = bind (makes_use k.opens (plain_call 7 driver 0 0) refl k.current) (λ r. still)
+
+  -- commands
+  makes_default : (r : Rig) (kind : ℕ) → Asks K (default_button r kind)
+  unfolding default_button
+  makes_default r kind = go (eqb (bank_driver r.here) 65535)
+    where
+      at : (b : Bool) → Asks K (offered_if b r (bank_driver r.here) kind)
+      at true = still
+      at false = still
+
+      go : (b : Bool) → Asks K (default_of b r (bank_driver r.here) kind)
+      go true = still
+      go false = bind (makes_open k.opens (bank_driver r.here) 0) at
+
+  makes_bound : (b : Option Command) → Makes K (run_bound b)
+  makes_bound (Some c) = line_of (makes_command c.driver c.target c.command)
+  makes_bound None = stay
+
+  makes_run : (r : Rig) (kind : ℕ) → Makes K (run_command r kind)
+  unfolding run_command
+  makes_run r kind = go (before (transport_of kind r.globals.transports) (transport_of kind r.here.part.transports))
+    where
+      go : (b : Option Command) → Makes K (run_else b r kind)
+      go (Some c) = makes_bound (Some c)
+      go None = onto {m = default_button r kind} {g = run_bound} (makes_default r kind) makes_bound
+
+  makes_rec_loads : (r : Rig) → Asks K (rec_loads r)
+  unfolding rec_loads
+  makes_rec_loads r = go (eqb r.here.part.rec 0)
+    where
+      go : (b : Bool) → Asks K (rec_if b r)
+      go true = bind (makes_default r 0) (λ b. still)
+      go false = still
+
+  -- scenes, without their loads
+  makes_names : (h : Here) → Asks K (scene_names h)
+  unfolding scene_names
+  makes_names h = go (eqb (length h.part.scenes) 0)
+    where
+      on : (b : Bool) → Asks K (names_on b (device h))
+      on true = still
+      on false = bind (makes_scenes (device h)) (λ l. still)
+
+      go : (b : Bool) → Asks K (names_if b h)
+      go true = on (eqb (device h) 65535)
+      go false = still
+
+  makes_on_device : (h : Here) (names : List ℕ) → Asks K (scene_on_device h names)
+  unfolding scene_on_device
+  makes_on_device h names = go (eqb (device h) 65535)
+    where
+      on : (i : Option ℕ) → Asks K (on_list i (device h) names)
+      on (Some i) = bind (makes_scenes (device h)) (λ l. still)
+      on None = still
+
+      go : (b : Bool) → Asks K (on_device_if b (device h) names)
+      go true = still
+      go false = bind (makes_current (device h)) on
+
+  makes_start : (h : Here) (names : List ℕ) (l : Lamps) → Asks K (start h names l)
+  unfolding start
+  makes_start h names l = go (scene_at h.bank l)
+    where
+      go : (p : Option ℕ) → Asks K (start_if p h names l)
+      go (Some i) = still
+      go None = bind (makes_on_device h names) (λ p. still)
+
+  -- what follows a load
+  makes_loaded : (r : Rig) (s : List ℕ) (i : ℕ) (l : Lamps) (b : Bool) → Asks K (loaded_if b r s i l)
+  makes_loaded r s i l true = giving (makes_push k.opens k.reads r _ s)
+  makes_loaded r s i l false = still
+
+  makes_shown : (r : Rig) (s : List ℕ) (m : Moves) (now : Float) (i : ℕ) (l : Lamps) (saved b : Bool) → Asks K (shown_if b r s m now i l saved)
+  unfolding next
+  makes_shown r s m now i l saved true = bind (makes_number k.opens k.reads r s m now i 8 l) (λ z. still {a = paged z true true})
+  makes_shown r s m now i l saved false = still
+
+  makes_asked : (r : Rig) (s : List ℕ) (m : Moves) (now : Float) (n : ℕ) (l : Lamps) (b : Bool) → Asks K (scene_if b r s m now n l)
+  unfolding next
+  makes_asked r s m now n l true = bind (makes_number k.opens k.reads r s m now (n - 1) 8 (loaded_by n l)) (λ z. still {a = paged z true true})
+  makes_asked r s m now n l false = still
+
+  -- ── with its loads ──
+
+  module _ (loads : K 8 ≡ true) where
+    makes_load : (driver i : ℕ) → Asks K (load_of driver i)
+    unfolding load_of plain_call
+    makes_load driver i = makes_done k.opens (plain_call 8 driver 0 i) refl loads
+
+    makes_load_on : (driver name i : ℕ) → Asks K (load_on driver name i)
+    unfolding load_on
+    makes_load_on driver name i = bind (makes_scenes driver) (λ l. go l.ok l.list)
+      where
+        go : (b : Bool) (all : List ℕ) → Asks K (load_if b driver name i all)
+        go true all = makes_load driver _
+        go false all = still
+
+    makes_scene_at : (r : Rig) (s : List ℕ) (i : ℕ) (l : Lamps) → Asks K (load_scene_at r s i l)
+    unfolding load_scene_at
+    makes_scene_at r s i l = bind (makes_names r.here) (λ names. go (eqb (device r.here) 65535 || leb (length names) i) names)
+      where
+        go : (b : Bool) (names : List ℕ) → Asks K (load_at_if b r s i l names)
+        go true names = still
+        go false names = bind (makes_load_on (device r.here) (get_or names i 65535) i) (makes_loaded r s i l)
+
+    makes_page : (right : Bool) (r : Rig) (s : List ℕ) (m : Moves) (now : Float) (l : Lamps) → Asks K (step_scene right r s m now l)
+    unfolding step_scene next
+    makes_page right r s m now l = bind (makes_names r.here) (λ names. at (eqb (length names) 0) names)
+      where
+        go : (b : Bool) (i : ℕ) (x : Started) → Asks K (page_if b r s m now i x)
+        go true i x = still
+        go false i x = bind (makes_scene_at r s i x.lamps) (λ z. makes_shown r s m now i z.lamps x.saved z.ok)
+
+        at : (b : Bool) (names : List ℕ) → Asks K (step_scene_if b right r s m now l names)
+        at true names = still
+        at false names =
+            bind (makes_start r.here names l)
+            (λ x. go (is_at (scene_at r.here.bank x.lamps) (next_scene right (scene_at r.here.bank x.lamps) (length names))) (next_scene right (scene_at r.here.bank x.lamps) (length names)) x)
+
+    makes_scene : (r : Rig) (s : List ℕ) (m : Moves) (now : Float) (n : ℕ) (l : Lamps) → Asks K (scene r s m now n l)
+    unfolding scene next
+    makes_scene r s m now n l = bind (makes_scene_at r s (n - 1) l) (λ z. makes_asked r s m now n z.lamps z.ok)
+
+  -- ── a bank is selected ──
+
+  module _ (rig_at : ℕ → Rig) (banks bank i : ℕ) (s : List ℕ) (m : Moves) (now : Float) (l : Lamps) where
+    makes_select_if : (b : Bool) → Asks K (select_if b rig_at bank i s m now l)
+    makes_select_if true = still
+    makes_select_if false = bind (behind (makes_flash_bank k.opens k.reads (rig_at i) s m now l) (makes_push k.opens k.reads (rig_at i) l s)) (λ x. still)
+
+    makes_select : Asks K (select_bank rig_at banks bank i s m now l)
+    unfolding select_bank
+    makes_select = makes_select_if (leb banks i)
+
+    makes_step_if : (b : Bool) → Asks K (step_if b rig_at banks bank i s m now l)
+    makes_step_if true = still
+    makes_step_if false = makes_select
+
+-- ── what loads nothing ──
+
 abbrev pub not_load : ℕ → Bool
 not_load kind = not (eqb kind 8)
 
--- ── what loads nothing ──
+no_loads : Lets not_load
+no_loads = record { opens = refl; reads = refl; commands = refl; scenes = refl; current = refl }
 
 makes_write_of : (driver name : ℕ) (x : Float) → Asks not_load (write_of driver name x)
 unfolding write_of write_call
@@ -46,18 +209,6 @@ makes_write d x = makes_write_of d.driver d.target _
 makes_toggle : (driver name : ℕ) → Asks not_load (toggle_of driver name)
 unfolding toggle_of plain_call
 makes_toggle driver name = makes_done refl (plain_call 3 driver name 0) refl refl
-
-makes_command : (driver name c : ℕ) → Asks not_load (command_of driver name c)
-unfolding command_of plain_call
-makes_command driver name c = makes_done refl (plain_call 4 driver name c) refl refl
-
-makes_scenes : (driver : ℕ) → Asks not_load (scenes_of driver)
-unfolding scenes_of plain_call
-makes_scenes driver = bind (makes_use refl (plain_call 6 driver 0 0) refl refl) (λ r. still)
-
-makes_current : (driver : ℕ) → Asks not_load (current_of driver)
-unfolding current_of plain_call
-makes_current driver = bind (makes_use refl (plain_call 7 driver 0 0) refl refl) (λ r. still)
 
 -- mute and solo
 makes_back : (d : Destination) (s : List Hushed) → Asks not_load (hand_back d s)
@@ -162,72 +313,6 @@ makes_solo : (r : Rig) (n : ℕ) (l : Lamps) (s : List Hushed) → Asks not_load
 unfolding solo
 makes_solo r n l s = makes_solo_with (destination r n) r n l s
 
--- commands
-makes_default : (r : Rig) (kind : ℕ) → Asks not_load (default_button r kind)
-unfolding default_button
-makes_default r kind = go (eqb (bank_driver r.here) 65535)
-  where
-    at : (b : Bool) → Asks not_load (offered_if b r (bank_driver r.here) kind)
-    at true = still
-    at false = still
-
-    go : (b : Bool) → Asks not_load (default_of b r (bank_driver r.here) kind)
-    go true = still
-    go false = bind (makes_open refl (bank_driver r.here) 0) at
-
-makes_bound : (b : Option Command) → Makes not_load (run_bound b)
-makes_bound (Some c) = line_of (makes_command c.driver c.target c.command)
-makes_bound None = stay
-
-makes_run : (r : Rig) (kind : ℕ) → Makes not_load (run_command r kind)
-unfolding run_command
-makes_run r kind = go (before (transport_of kind r.globals.transports) (transport_of kind r.here.part.transports))
-  where
-    go : (b : Option Command) → Makes not_load (run_else b r kind)
-    go (Some c) = makes_bound (Some c)
-    go None = onto {m = default_button r kind} {g = run_bound} (makes_default r kind) makes_bound
-
-makes_rec_loads : (r : Rig) → Asks not_load (rec_loads r)
-unfolding rec_loads
-makes_rec_loads r = go (eqb r.here.part.rec 0)
-  where
-    go : (b : Bool) → Asks not_load (rec_if b r)
-    go true = bind (makes_default r 0) (λ b. still)
-    go false = still
-
--- scenes, without their loads
-makes_names : (h : Here) → Asks not_load (scene_names h)
-unfolding scene_names
-makes_names h = go (eqb (length h.part.scenes) 0)
-  where
-    on : (b : Bool) → Asks not_load (names_on b (device h))
-    on true = still
-    on false = bind (makes_scenes (device h)) (λ l. still)
-
-    go : (b : Bool) → Asks not_load (names_if b h)
-    go true = on (eqb (device h) 65535)
-    go false = still
-
-makes_on_device : (h : Here) (names : List ℕ) → Asks not_load (scene_on_device h names)
-unfolding scene_on_device
-makes_on_device h names = go (eqb (device h) 65535)
-  where
-    on : (i : Option ℕ) → Asks not_load (on_list i (device h) names)
-    on (Some i) = bind (makes_scenes (device h)) (λ l. still)
-    on None = still
-
-    go : (b : Bool) → Asks not_load (on_device_if b (device h) names)
-    go true = still
-    go false = bind (makes_current (device h)) on
-
-makes_start : (h : Here) (names : List ℕ) (l : Lamps) → Asks not_load (start h names l)
-unfolding start
-makes_start h names l = go (scene_at h.bank l)
-  where
-    go : (p : Option ℕ) → Asks not_load (start_if p h names l)
-    go (Some i) = still
-    go None = bind (makes_on_device h names) (λ p. still)
-
 -- ── loads ──
 
 only_none : {l : List Asked} → Only not_load l → loads l ≡ false
@@ -296,7 +381,7 @@ loads-load_of driver i = record { grown = λ t e. weaken (λ l u. at u) (use_ok 
 
 loads_on : (driver name i : ℕ) → Loads itself (load_on driver name i)
 unfolding load_on
-loads_on driver name i = quiet_first (makes_scenes driver) (λ l. go l.ok l.list)
+loads_on driver name i = quiet_first (makes_scenes no_loads driver) (λ l. go l.ok l.list)
   where
     go : (b : Bool) (all : List ℕ) → Loads itself (load_if b driver name i all)
     go true all = loads-load_of driver _
@@ -311,28 +396,20 @@ loaded_of x = x.loaded
 loads-scene_at : (r : Rig) (s : List ℕ) (i : ℕ) (l : Lamps) → Loads ok_of (load_scene_at r s i l)
 unfolding load_scene_at
 loads-scene_at r s i l =
-    quiet_first (makes_names r.here) (λ names. go (eqb (device r.here) 65535 || leb (length names) i) names)
+    quiet_first (makes_names no_loads r.here) (λ names. go (eqb (device r.here) 65535 || leb (length names) i) names)
   where
-    after-load : (b : Bool) → Asks not_load (loaded_if b r s i l)
-    after-load true = giving (makes_push refl refl r _ s)
-    after-load false = still
-
     value : (b : Bool) (t : Talk) → ok_of (loaded_if b r s i l t).value ≡ b
     value true t = refl
     value false t = refl
 
     go : (b : Bool) (names : List ℕ) → Loads ok_of (load_at_if b r s i l names)
     go true names = quiet still (λ t. refl)
-    go false names = quiet_then itself (loads_on (device r.here) (get_or names i 65535) i) after-load value
+    go false names = quiet_then itself (loads_on (device r.here) (get_or names i 65535) i) (makes_loaded no_loads r s i l) value
 
 loads-page : (right : Bool) (r : Rig) (s : List ℕ) (m : Moves) (now : Float) (l : Lamps) → Loads loaded_of (step_scene right r s m now l)
 unfolding step_scene next
-loads-page right r s m now l = quiet_first (makes_names r.here) (λ names. at (eqb (length names) 0) names)
+loads-page right r s m now l = quiet_first (makes_names no_loads r.here) (λ names. at (eqb (length names) 0) names)
   where
-    show : (i : ℕ) (saved : Bool) (k : Lamps) (b : Bool) → Asks not_load (shown_if b r s m now i k saved)
-    show i saved k true = bind (makes_number refl refl r s m now i 8 k) (λ z. still {a = paged z true true})
-    show i saved k false = still
-
     value : (i : ℕ) (saved : Bool) (k : Lamps) (b : Bool) (t : Talk) → loaded_of (shown_if b r s m now i k saved t).value ≡ b
     value i saved k true t = refl
     value i saved k false t = refl
@@ -340,22 +417,18 @@ loads-page right r s m now l = quiet_first (makes_names r.here) (λ names. at (e
     go : (b : Bool) (i : ℕ) (x : Started) → Loads loaded_of (page_if b r s m now i x)
     go true i x = quiet still (λ t. refl)
     go false i x =
-        quiet_then ok_of (loads-scene_at r s i x.lamps) (λ k. show i x.saved k.lamps k.ok) (λ k t. value i x.saved k.lamps k.ok t)
+        quiet_then ok_of (loads-scene_at r s i x.lamps) (λ k. makes_shown no_loads r s m now i k.lamps x.saved k.ok) (λ k t. value i x.saved k.lamps k.ok t)
 
     at : (b : Bool) (names : List ℕ) → Loads loaded_of (step_scene_if b right r s m now l names)
     at true names = quiet still (λ t. refl)
     at false names =
-        quiet_first (makes_start r.here names l)
+        quiet_first (makes_start no_loads r.here names l)
         (λ x. go (is_at (scene_at r.here.bank x.lamps) (next_scene right (scene_at r.here.bank x.lamps) (length names))) (next_scene right (scene_at r.here.bank x.lamps) (length names)) x)
 
 loads-scene : (r : Rig) (s : List ℕ) (m : Moves) (now : Float) (n : ℕ) (l : Lamps) → Loads loaded_of (scene r s m now n l)
 unfolding scene next
-loads-scene r s m now n l = quiet_then ok_of (loads-scene_at r s (n - 1) l) (λ k. show k.lamps k.ok) (λ k t. value k.lamps k.ok t)
+loads-scene r s m now n l = quiet_then ok_of (loads-scene_at r s (n - 1) l) (λ k. makes_asked no_loads r s m now n k.lamps k.ok) (λ k t. value k.lamps k.ok t)
   where
-    show : (k : Lamps) (b : Bool) → Asks not_load (scene_if b r s m now n k)
-    show k true = bind (makes_number refl refl r s m now (n - 1) 8 (loaded_by n k)) (λ z. still {a = paged z true true})
-    show k false = still
-
     value : (k : Lamps) (b : Bool) (t : Talk) → loaded_of (scene_if b r s m now n k t).value ≡ b
     value k true t = refl
     value k false t = refl
@@ -363,10 +436,6 @@ loads-scene r s m now n l = quiet_then ok_of (loads-scene_at r s (n - 1) l) (λ 
 -- ── a bank is selected ──
 
 module _ (rig_at : ℕ → Rig) (banks bank i : ℕ) (s : List ℕ) (m : Moves) (now : Float) (l : Lamps) where
-  makes_select_if : (b : Bool) → Asks not_load (select_if b rig_at bank i s m now l)
-  makes_select_if true = still
-  makes_select_if false = bind (behind (makes_flash_bank refl refl (rig_at i) s m now l) (makes_push refl refl (rig_at i) l s)) (λ k. still)
-
   selected_if : (b : Bool) (t : Talk) → (select_if b rig_at bank i s m now l t).value.selected ≡ not b
   unfolding next
   selected_if true t = refl
@@ -377,10 +446,6 @@ module _ (rig_at : ℕ → Rig) (banks bank i : ℕ) (s : List ℕ) (m : Moves) 
   bank_if true t e h f = h
   bank_if false t e h f = omega (arith, leb-false banks i e)
 
-  makes_select : Asks not_load (select_bank rig_at banks bank i s m now l)
-  unfolding select_bank
-  makes_select = makes_select_if (leb banks i)
-
   selected_so : (t : Talk) → (select_bank rig_at banks bank i s m now l t).value.selected ≡ not (leb banks i)
   unfolding select_bank
   selected_so t = selected_if (leb banks i) t
@@ -388,10 +453,6 @@ module _ (rig_at : ℕ → Rig) (banks bank i : ℕ) (s : List ℕ) (m : Moves) 
   bank_so : (t : Talk) → bank < 16 → banks ≤ 16 → (select_bank rig_at banks bank i s m now l t).value.bank < 16
   unfolding select_bank
   bank_so t h f = bank_if (leb banks i) t refl h f
-
-  makes_step_if : (b : Bool) → Asks not_load (step_if b rig_at banks bank i s m now l)
-  makes_step_if true = still
-  makes_step_if false = makes_select
 
   stepped_if : (b : Bool) (t : Talk) → (step_if b rig_at banks bank i s m now l t).value.selected ≡ not b && not (leb banks i)
   stepped_if true t = refl
@@ -431,13 +492,13 @@ module _ (p : Press) (few : p.banks ≤ 16) (here : bank_of p < 16) where
       let i = next_bank right p.banks (bank_of p) in
       steady
       (bind
-      (makes_step_if p.rig_at p.banks (bank_of p) i (targets_of p.silenced) p.moves p.now p.lamps (eqb i (bank_of p)))
+      (makes_step_if no_loads p.rig_at p.banks (bank_of p) i (targets_of p.silenced) p.moves p.now p.lamps (eqb i (bank_of p)))
       (λ x. still {a = of_bank p.silenced x}))
       (λ t. stepped_if p.rig_at p.banks (bank_of p) i (targets_of p.silenced) p.moves p.now p.lamps (eqb i (bank_of p)) t)
       (λ t. bank_step p.rig_at p.banks (bank_of p) i (targets_of p.silenced) p.moves p.now p.lamps (eqb i (bank_of p)) t here few)
 
   command_ok : (kind : ℕ) → Chooses false (command kind p)
-  command_ok kind = steady (giving (makes_run p.rig kind)) (λ t. refl) (λ t. here)
+  command_ok kind = steady (giving (makes_run no_loads p.rig kind)) (λ t. refl) (λ t. here)
 
   mute_ok : (n : ℕ) → Chooses false (mute_as n p)
   unfolding next
@@ -463,7 +524,7 @@ module _ (p : Press) (few : p.banks ≤ 16) (here : bank_of p < 16) where
         grown = λ t e.
             let u = rec_loads p.rig t in
             let b = (rec_as_lem u.value ch).grown u.talk e in
-            let a = (makes_rec_loads p.rig).grown t b.was in
+            let a = (makes_rec_loads no_loads p.rig).grown t b.was in
             join a b (λ l q. q ∙ sym (loads-append (paired a.more t.left) l ∙ ap (λ (x : Bool). x || loads l) (only_none a.fact)));
         bank = λ t. (rec_as_lem (rec_loads p.rig t).value ch).bank (rec_loads p.rig t).talk;
       }
@@ -472,7 +533,7 @@ module _ (p : Press) (few : p.banks ≤ 16) (here : bank_of p < 16) where
   unfolding next
   select_ok true ch =
       steady
-      (bind (makes_select p.rig_at p.banks (bank_of p) ch (targets_of p.silenced) p.moves p.now p.lamps)
+      (bind (makes_select no_loads p.rig_at p.banks (bank_of p) ch (targets_of p.silenced) p.moves p.now p.lamps)
       (λ x. still {a = of_bank p.silenced x}))
       (λ t. selected_so p.rig_at p.banks (bank_of p) ch (targets_of p.silenced) p.moves p.now p.lamps t)
       (λ t. bank_so p.rig_at p.banks (bank_of p) ch (targets_of p.silenced) p.moves p.now p.lamps t here few)
@@ -550,3 +611,54 @@ module _ (p : Press) (few : p.banks ≤ 16) (here : bank_of p < 16) where
   pub button_ok_lem : (note : ℕ) → Chooses (chosen (kind_of note) (or_first (channel_of note))) (button note p)
   unfolding button
   button_ok_lem note = press_ok (kind_of note) (or_first (channel_of note))
+
+-- ── a press that is neither mute nor solo writes nothing ──
+
+no_writes : Lets not_write
+no_writes = record { opens = refl; reads = refl; commands = refl; scenes = refl; current = refl }
+
+module _ (p : Press) where
+  page_quiet : (right : Bool) → Asks not_write (page right p)
+  page_quiet right =
+      bind (makes_page no_writes refl right p.rig (targets_of p.silenced) p.moves p.now p.lamps) (λ x. still {a = of_scene (bank_of p) p.silenced x})
+
+  walk_quiet : (right : Bool) → Asks not_write (walk right p)
+  unfolding step_bank
+  walk_quiet right =
+      let i = next_bank right p.banks (bank_of p) in
+      bind
+      (makes_step_if no_writes p.rig_at p.banks (bank_of p) i (targets_of p.silenced) p.moves p.now p.lamps (eqb i (bank_of p)))
+      (λ x. still {a = of_bank p.silenced x})
+
+  command_quiet : (kind : ℕ) → Asks not_write (command kind p)
+  command_quiet kind = giving (makes_run no_writes p.rig kind)
+
+  rec_quiet : (ch : ℕ) → Asks not_write (rec ch p)
+  rec_quiet ch = bind (makes_rec_loads no_writes p.rig) at
+    where
+      at : (b : Bool) → Asks not_write (rec_as b ch p)
+      at true =
+          bind (makes_scene no_writes refl p.rig (targets_of p.silenced) p.moves p.now (ch + 1) p.lamps) (λ x. still {a = of_scene (bank_of p) p.silenced x})
+      at false = command_quiet 0
+
+  select_quiet : (b : Bool) (ch : ℕ) → Asks not_write (select_as b ch p)
+  select_quiet true ch =
+      bind (makes_select no_writes p.rig_at p.banks (bank_of p) ch (targets_of p.silenced) p.moves p.now p.lamps) (λ x. still {a = of_bank p.silenced x})
+  select_quiet false ch = command_quiet 3
+
+  press_quiet : (kind ch : ℕ) → eqb kind 2 ≡ false → eqb kind 1 ≡ false → Asks not_write (press_of kind ch p)
+  unfolding press_of
+  press_quiet kind ch m s =
+      pick_of (eqb kind 7) (page_quiet true)
+      (pick_of (eqb kind 6) (page_quiet false)
+      (pick_of (eqb kind 5 || eqb kind 9) (walk_quiet true)
+      (pick_of (eqb kind 4 || eqb kind 8) (walk_quiet false)
+      (rw (m, s) (pick_of (eqb kind 0) (rec_quiet ch) (pick_of (eqb kind 3) (select_quiet p.rig.here.part.select ch) (command_quiet kind)))))))
+    where
+      pick_of : (b : Bool) {f g : Act Pressed} → Asks not_write f → Asks not_write g → Asks not_write (pick b f g)
+      pick_of true h k = h
+      pick_of false h k = k
+
+  pub button_quiet : (note : ℕ) → eqb (kind_of note) 2 ≡ false → eqb (kind_of note) 1 ≡ false → Asks not_write (button note p)
+  unfolding button
+  button_quiet note m s = press_quiet (kind_of note) (or_first (channel_of note)) m s

@@ -8,7 +8,7 @@ use native.Mathlib.Omega.{arith}
 use lib.Dec.{eqb}
 use lib.ListN.{length}
 use lib.IntN.{ℤ, pos, negsuc}
-use lib.Ieee.{Float, binary64, of_bits, to_bits, add, sub, mul, div, lt, le, eq}
+use lib.Ieee.{Float, binary64, of_int, of_bits, to_bits, add, sub, mul, div, lt, le, eq}
 use Rattle.base.specs.First.{first}
 use Rattle.base.specs.Keyed.{find, change, keep, beside}
 use Rattle.base.specs.Range.{all, every}
@@ -37,7 +37,7 @@ use Rattle.definition.specs.Buttons.{press_of, button, added_by}
 use Rattle.definition.specs.Step.{Kept, kept, seen, tick, act, refusal, done, Stepped, stepped, step}
 use Rattle.definition.specs.Scenes.{step_scene, scene, scene_names, scene_on_device, load_on, load_scene_at, start}
 use Rattle.account.specs.Plain.{dest, plain, paged, alive, timed, move, press, done_then, nothing_then, level_then}
-use Rattle.account.specs.Account.{done_reply, answer_in, opens, loads, pasts, final, reading, lined, replaced_by, tried_of, dropped_of, selects, account, summed, sum_for, ticks, moved, saying, open_of, writing, Only, one-call, not_write, Nudges, nudged-all, Offer, Stepper, Claim, Uses, used, opened-used, not-used, Tries, tried-one, Tried, Drained, Each, one_more}
+use Rattle.account.specs.Account.{done_reply, answer_in, opens, loads, pasts, final, reading, lined, replaced_by, tried_of, dropped_of, selects, account, summed, sum_for, ticks, others, saying, open_of, writing, Only, one-call, not_write, Nudges, nudged-all, Offer, Stepper, Claim, Uses, used, opened-used, not-used, Tries, tried-one, Tried, Drained, Each, one_more}
 
 -- ── events ──
 
@@ -79,7 +79,7 @@ abbrev drains_once : Stepper
 drains_once v k e answers = idle_if (idle e.what k.site.due) v k e answers
 
 refuted_1 : Claim drains_once → ⊥
-unfolding pasts final account step refusal act fader take_move tick drain drained nudges writes refresh_live tick_flash destination own_fader read read_of write write_of use_done use_call open_for is_open opening ask next plain_call write_call answer_of to_other item_count items_of is_marked mark_at moved_to place_move change lined replaced_by tried_of dropped_of paired opens seen fresh_session seen_strips beside
+unfolding pasts final account step refusal act fader take_move tick drain drained nudges writes refresh_live tick_flash destination own_fader read read_of write write_of use_done use_call open_for is_open opening ask next plain_call write_call answer_of to_other item_count items_of is_marked mark_at moved_to place_move change lined replaced_by tried_of dropped_of paired opens seen fresh_session seen_strips beside sub le of_bits
 refuted_1 c =
     let os : List Offer = at (move 0 f1) [] ∷ at input.Tick (done_then (done_then [])) ∷ at (move 0 most) [] ∷ at input.Tick [] ∷ [] in
     let e : ◌≡◌ {A = ℕ} 1 0 = ap length (c (plain false) (omega arith) os).line in
@@ -103,7 +103,7 @@ never_clears v k e answers = remarked e.what k.desk.marks (step v k e answers)
 
 -- a move where the device reads nothing is taken over; bank right and left; then the device is far off, and the move is to be held
 refuted_2 : Claim never_clears → ⊥
-unfolding pasts final account step refusal added_by act fader take_move hold_move button press_of step_bank select_bank next_bank flash_bank flash_number finish_flash phases phases_to send_home flashing no_flash push_state push_faders push_fader push_position is_muted destination own_fader read read_of use_call open_for is_open opening ask next plain_call answer_of to_read to_other item_count items_of send bytes_of held is_marked mark_at no_marks last_move moved_to place_move change reading lined replaced_by paired opens loads selects kind_of channel_of base_of named_of first le64 add sub mul div lt le eq of_bits abs_of clamp_of seen fresh_session seen_strips beside
+unfolding pasts final account step refusal added_by act fader take_move hold_move button press_of step_bank select_bank next_bank flash_bank flash_number finish_flash phases phases_to send_home flashing no_flash push_state push_faders push_fader push_position is_muted destination own_fader read read_of use_call open_for is_open opening ask next plain_call answer_of to_read to_other item_count items_of send bytes_of held is_marked mark_at no_marks last_move moved_to place_move change reading lined replaced_by paired opens loads selects kind_of channel_of base_of named_of first le64 add sub mul div lt le eq of_bits abs_of clamp_of seen fresh_session seen_strips beside of_int
 refuted_2 c =
     let os : List Offer =
     at (move 0 most) (done_then (nothing_then [])) ∷ at (press 0x2f) [] ∷ at (press 0x2e) [] ∷ at (move 0 f1) (level_then 0xe0 0x3f []) ∷ [] in
@@ -176,7 +176,7 @@ tries_some (tried-one {l = l} u r) = at_least l u
     at_least l (not-used n) = omega arith
 
 refuted_6 : Claim writes_nothing → ⊥
-unfolding pasts final account ticks step refusal act fader take_move destination own_fader is_marked mark_at moved_to place_move change lined replaced_by tried_of paired opens next seen fresh_session seen_strips beside
+unfolding pasts final account ticks step refusal act fader take_move destination own_fader is_marked mark_at moved_to place_move change lined replaced_by tried_of paired opens next seen fresh_session seen_strips beside tick tick_flash refresh_live drain writes write write_of use_done use_call open_for is_open nudges write_call ask
 refuted_6 c = go (c (plain false) (omega arith) (at (move 0 f1) [] ∷ at input.Tick [] ∷ [])).drains
   where
     none_left : (l m n : List Asked) → [] ≡ l ++ (m ++ n) → 1 ≤ length m → ⊥
@@ -203,7 +203,7 @@ abbrev writes_at_once : Stepper
 writes_at_once v k e answers = hasty e.what (step v k e answers)
 
 refuted_7 : Claim writes_at_once → ⊥
-unfolding pasts moved paired write_call
+unfolding pasts others paired write_call
 refuted_7 c = go (c (plain false) (omega arith) (at (move 0 f1) (done_then []) ∷ [])).quiet
   where
     go : {r : Reply} {l : List Asked} → Only not_write (saying (writing (dest false) f1) r ∷ l) → ⊥
@@ -301,7 +301,7 @@ abbrev scene_answers : List ℕ
 scene_answers = nothing_then (6 ∷ 0 ∷ 1 ∷ 0 ∷ 0 ∷ 0 ∷ 0 ∷ 0 ∷ 0 ∷ 0 ∷ 0 ∷ 0 ∷ 0 ∷ 0 ∷ 0 ∷ 0 ∷ 7 ∷ 0 ∷ 5 ∷ 0 ∷ 0 ∷ 0 ∷ 0 ∷ 0 ∷ 0 ∷ 0 ∷ 0 ∷ 0 ∷ 0 ∷ 0 ∷ 0 ∷ 0 ∷ done_then [])
 
 refuted_10 : Claim keeps_on_load → ⊥
-unfolding pasts final account step refusal added_by act fader take_move hold_move button press_of next_bank step_scene scene scene_names scene_on_device load_on load_scene_at start scene_at scene_to scene_unknown solo_to none_noted position device bank_driver flash_number finish_flash phases phases_to send_home flashing no_flash push_state push_faders push_fader push_position is_muted destination own_fader read read_of use_done use_call open_for is_open opening ask next plain_call scenes_of current_of load_of answer_of to_read to_scenes scene_list to_current to_other item_count items_of all send bytes_of held is_marked mark_at no_marks last_move moved_to place_move change reading lined replaced_by paired opens loads selects kind_of channel_of base_of named_of first le64 add sub mul div lt le eq of_bits abs_of clamp_of seen fresh_session seen_strips beside
+unfolding pasts final account step refusal added_by act fader take_move hold_move button press_of next_bank step_scene scene scene_names scene_on_device load_on load_scene_at start scene_at scene_to scene_unknown solo_to none_noted position device bank_driver flash_number finish_flash phases phases_to send_home flashing no_flash push_state push_faders push_fader push_position is_muted destination own_fader read read_of use_done use_call open_for is_open opening ask next plain_call scenes_of current_of load_of answer_of to_read to_scenes scene_list to_current to_other item_count items_of all send bytes_of held is_marked mark_at no_marks last_move moved_to place_move change reading lined replaced_by paired opens loads selects kind_of channel_of base_of named_of first le64 add sub mul div lt le eq of_bits abs_of clamp_of seen fresh_session seen_strips beside of_int
 refuted_10 c =
     let os : List Offer = at (move 0 most) (done_then (nothing_then [])) ∷ at (press 0x63) scene_answers ∷ at (move 0 f1) (level_then 0xe0 0x3f []) ∷ [] in
     false≢true (sym (ap (head_is f1) (c paged (omega arith) os).line))
@@ -327,7 +327,7 @@ at_one e answers = record { event = Some (record { time = f1; what = e }); answe
 
 -- the list comes, a move on it is taken over, a second later the list is another, and the next move there is to be held
 refuted_11 : Claim keeps_on_live → ⊥
-unfolding pasts final account step refusal act fader take_move hold_move tick drain drained nudges writes refresh_live live_of strips_of strip_of strip_at strip_dest same_strips same_strip keep find tick_flash write write_of write_call unmark_bank unmark_up_to push_state push_faders push_fader push_position is_muted destination own_fader read read_of use_done use_call open_for is_open opening ask next plain_call answer_of to_read to_live live_list to_other item_count items_of all send bytes_of held is_marked mark_at no_marks last_move moved_to place_move change reading lined replaced_by tried_of dropped_of paired opens le64 add sub mul div lt le eq of_bits to_bits abs_of clamp_of seen fresh_session seen_strips beside
+unfolding pasts final account step refusal act fader take_move hold_move tick drain drained nudges writes refresh_live live_of strips_of strip_of strip_at strip_dest same_strips same_strip keep find tick_flash write write_of write_call unmark_bank unmark_up_to push_state push_faders push_fader push_position is_muted destination own_fader read read_of use_done use_call open_for is_open opening ask next plain_call answer_of to_read to_live live_list to_other item_count items_of all send bytes_of held is_marked mark_at no_marks last_move moved_to place_move change reading lined replaced_by tried_of dropped_of paired opens le64 add sub mul div lt le eq of_bits to_bits abs_of clamp_of seen fresh_session seen_strips beside of_int
 refuted_11 c =
     let os : List Offer =
     at input.Tick (done_then (live_list_lem 7)) ∷ at (move 0 most) (nothing_then []) ∷ at_one input.Tick (done_then (live_list_lem 8)) ∷ at_one (move 0 f1) (level_then 0xe0 0x3f []) ∷ [] in

@@ -2,7 +2,7 @@
 use Rattle.std.proofs.Common.{None, Option, Some}
 use Prim.Native.Nat.{ℕ, suc, ◌+◌, ◌*◌, ◌≤◌}
 use mathlib.Core.Path.{◌≡◌, refl, sym, ap, subst, ◌∙◌}
-use mathlib.Core.Bool.{Bool, true, false, not, ◌&&◌}
+use mathlib.Core.Bool.{Bool, true, false}
 use mathlib.Core.List.{List, [], ◌∷◌, ◌++◌, append-nil, append_assoc}
 use native.Mathlib.Omega.{arith}
 use lib.Dec.{eqb}
@@ -17,14 +17,13 @@ use Rattle.drivers.specs.declared.line.Stop.{Stop}
 use Rattle.drivers.specs.declared.line.Stop.TheVariants as stop
 use Rattle.drivers.specs.Paired.{Asked, paired}
 use Rattle.base.specs.Keyed.{beside}
-use Rattle.session.specs.Session.{Turn, is_marked, last_move, fresh_session}
+use Rattle.session.specs.Session.{Turn, fresh_session}
 use Rattle.event.specs.declared.Input.{Input}
 use Rattle.event.specs.declared.Input.TheVariants as input
 use Rattle.event.specs.declared.Timed.{Timed}
 use Rattle.definition.specs.Rig.{destination, encoder_dest}
-use Rattle.definition.specs.Faders.{is_held}
 use Rattle.definition.specs.Step.{Site, Kept, kept, seen, Left, act, refusal, Stepped, finish, step_if, step}
-use Rattle.account.specs.Account.{past_of, Offer, step_of, pasts, final, Account, blank, Waits, Drained, Each, no_more, one_more, reading, rig_in, book_if, book_move, book_turn, book_press, press_moves, book_live, book_drain, book_event, book, account, same_live, live_at, count, move_at, moves, turn_at, turns, tick_at, ticks, tick_in, moved_at, moved, Only, no_call, not_write, sum_for, handed, tried, Holds, ClaimFrom, Begins, Demand3, fresh}
+use Rattle.account.specs.Account.{past_of, Offer, step_of, pasts, final, Account, blank, Waits, Drained, Each, no_more, one_more, rig_in, book_if, holds, book_move, book_turn, book_press, press_moves, book_live, book_drain, book_event, book, account, same_live, live_at, count, move_at, moves, turn_at, turns, tick_at, ticks, tick_in, other_at, others, Only, no_call, not_write, sum_for, handed, tried, Holds, ClaimFrom, Begins, Demand3, fresh}
 use Rattle.account.proofs.Frame.{only_append}
 use Rattle.account.proofs.Bridge.{desk_of, Booked, Books, Placed, act_ok, drain_in}
 use Rattle.account.proofs.Counts.{fates, fates_event, total, total_event, count-append, moves_once, sum_append}
@@ -36,7 +35,7 @@ module _ {A B : Type 0} {R : A → B → Type 0} where
 
 -- ── after some events ──
 
--- ms, ts and ks are the moves, turns and ticks so far, qs what the moves and turns asked
+-- ms, ts and ks are the moves, turns and ticks so far, qs what the other events asked that are to write nothing
 record Inv (ms : List ℕ) (ts : List Turn) (ks : List (List Asked)) (qs : List Asked) (k : Kept) (a : Account) : Type 0 where
   desk : k.desk ≡ desk_of a
   opened : k.opened ≡ a.opened
@@ -61,7 +60,7 @@ module _ (v : View) (i : ℕ) (w z : Site) (answers : List ℕ) (asked : List As
       go : (f : Option Destination) → (book_move f (w.bank * 16 + ch) m answers a).drains ≡ a.drains
       go None = refl
       go (Some d) =
-          at ((d.takeover && not (is_marked (w.bank * 16 + ch) a.marks)) && is_held (reading d answers a.opened) (last_move (w.bank * 16 + ch) a.last) x)
+          at (holds d (w.bank * 16 + ch) m answers a)
   drains_event (input.Midi (event.Encoder ch n)) = go (encoder_dest (rig_in v w) (ch + 1)) ∙ sym (append-nil a.drains)
     where
       go : (f : Option Destination) → (book_turn f n a).drains ≡ a.drains
@@ -87,8 +86,9 @@ module _ (v : View) (i : ℕ) (w z : Site) (answers : List ℕ) (asked : List As
 -- what a step makes of the invariant
 abbrev After : View → ℕ → Option Timed → List ℕ → Kept → Account → List ℕ → List Turn → List (List Asked) → List Asked → Stepped → Type 0
 After v i e answers k a ms ts ks qs r =
-    Inv (ms ++ move_at v i (past_of e k.site answers r)) (ts ++ turn_at v (past_of e k.site answers r)) (ks ++ tick_at (past_of e k.site answers r))
-    (qs ++ moved_at (past_of e k.site answers r)) r.kept (book v i (past_of e k.site answers r) a)
+    Inv (ms ++ move_at v i (past_of e k.site r.kept.site answers r.ended)) (ts ++ turn_at v (past_of e k.site r.kept.site answers r.ended))
+    (ks ++ tick_at (past_of e k.site r.kept.site answers r.ended)) (qs ++ other_at (past_of e k.site r.kept.site answers r.ended)) r.kept
+    (book v i (past_of e k.site r.kept.site answers r.ended) a)
 
 module _ (v : View) (i : ℕ) (e : Timed) (answers : List ℕ) (k : Kept) (a : Account) (ms : List ℕ) (ts : List Turn) (ks : List (List Asked)) (qs : List Asked) (h : Inv ms ts ks qs k a) where
   -- an event that is not finished is no step
@@ -105,11 +105,11 @@ module _ (v : View) (i : ℕ) (e : Timed) (answers : List ℕ) (k : Kept) (a : A
         desk = b.desk;
         opened = b.opened;
         placed = b.placed;
-        fate = λ n. omega (arith, h.fate n, count-append n ms (move_at v i (past_of (Some e) k.site answers (finish stop.Going v k r))), fates_event v i k.site x.site answers l a n e.what);
+        fate = λ n. omega (arith, h.fate n, count-append n ms (move_at v i (past_of (Some e) k.site (finish stop.Going v k r).kept.site answers (finish stop.Going v k r).ended)), fates_event v i k.site x.site answers l a n e.what);
         drains = subst (Each Drained (ks ++ tick_in e.what l)) (sym (drains_event v i k.site x.site answers l a e.what)) (each_append h.drains b.drains);
         quiet = only_append h.quiet b.quiet;
         turned = λ d.
-            sum_append d ts _ ∙ ap (λ (z : ℤ). z +ℤ sum_for d (turn_at v (past_of (Some e) k.site answers (finish stop.Going v k r)))) (h.turned d)
+            sum_append d ts _ ∙ ap (λ (z : ℤ). z +ℤ sum_for d (turn_at v (past_of (Some e) k.site (finish stop.Going v k r).kept.site answers (finish stop.Going v k r).ended))) (h.turned d)
             ∙ sym (total_event v i k.site x.site answers l a d e.what);
       }
   one r (stop.Waits c) f = none_so
@@ -137,14 +137,14 @@ offered_so v few i None answers k a ms ts ks qs h = rw (append-nil, append-nil, 
 
 all : (v : View) → v.banks ≤ 16 → (os : List Offer) (i : ℕ) (k : Kept) (a : Account) (ms : List ℕ) (ts : List Turn) (ks : List (List Asked)) (qs : List Asked) →
     Inv ms ts ks qs k a →
-    Inv (ms ++ moves v i (pasts step v k os)) (ts ++ turns v (pasts step v k os)) (ks ++ ticks (pasts step v k os)) (qs ++ moved (pasts step v k os))
-    (final step v k os) (account v i (pasts step v k os) a)
-unfolding pasts final account moves turns ticks moved
+    Inv (ms ++ moves v i (pasts step v k k os)) (ts ++ turns v (pasts step v k k os)) (ks ++ ticks (pasts step v k k os)) (qs ++ others (pasts step v k k os))
+    (final step v k os) (account v i (pasts step v k k os) a)
+unfolding pasts final account moves turns ticks others
 all v few [] i k a ms ts ks qs h = rw (append-nil, append-nil, append-nil, append-nil) h
 all v few (o ∷ os) i k a ms ts ks qs h =
     let r = step_of step v k o.event o.answers in
     rw (← append_assoc, ← append_assoc, ← append_assoc, ← append_assoc)
-    (all v few os (suc i) r.kept (book v i (past_of o.event k.site o.answers r) a) _ _ _ _
+    (all v few os (suc i) r.kept (book v i (past_of o.event k.site r.kept.site o.answers r.ended) a) _ _ _ _
     (offered_so v few i o.event o.answers k a ms ts ks qs h))
 
 begins : (k : Kept) → Begins k → Inv [] [] [] [] k blank
@@ -163,8 +163,8 @@ begins k b =
 -- from every session without marks, last moves, line, sums and open drivers
 pub demand_3_from : (k : Kept) → Begins k → ClaimFrom k step
 demand_3_from k b v few os =
-    let ps = pasts step v k os in
-    let h : Inv (moves v 0 ps) (turns v ps) (ticks ps) (moved ps) (final step v k os) (account v 0 ps blank) = all v few os 0 k blank [] [] [] [] (begins k b) in
+    let ps = pasts step v k k os in
+    let h : Inv (moves v 0 ps) (turns v ps) (ticks ps) (others ps) (final step v k os) (account v 0 ps blank) = all v few os 0 k blank [] [] [] [] (begins k b) in
     record {
       line = ap (λ d. d.line) h.desk;
       sums = λ d. ap (λ (x : _). sum_for d x.turns) h.desk;
@@ -184,5 +184,5 @@ demand_3 = demand_3_from fresh fresh_begins
 
 -- of a profile that is accepted: it has at most 16 banks
 pub demand_3_of : (s : List ℕ) → verdict s ≡ 0 → (os : List Offer) →
-    Holds (view_of s) (pasts step (view_of s) fresh os) (final step (view_of s) fresh os) (account (view_of s) 0 (pasts step (view_of s) fresh os) blank)
+    Holds (view_of s) (pasts step (view_of s) fresh fresh os) (final step (view_of s) fresh os) (account (view_of s) 0 (pasts step (view_of s) fresh fresh os) blank)
 demand_3_of s good os = demand_3 (view_of s) (few_banks s good) os

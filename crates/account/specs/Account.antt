@@ -1,7 +1,9 @@
 -- The account, and what demand 3 claims of it: "one claim on the whole list, not one for each event".
--- The account is fed what is past: for each event whether it finished, what it was, the answers that it was offered, and, from the definition of an
--- event, where the bridge stood before and after it and which call took which answer. A `Past` has no mark, last move, line or sum.
+-- The account is fed what is past: for each event whether it finished, what it was, the answers that it was offered, where the definition's run of the same
+-- events stood before and after it, and which call took which answer. A `Past` has no mark, last move, line or sum.
 use Rattle.std.specs.Prelude.{ℕ, suc, ◌+◌, ◌*◌, ◌≤◌, ◌<◌, ◌≡◌, Bool, true, false, ◌&&◌, ◌||◌, not, List, [], ◌∷◌, ◌++◌, map, eqb, leb, length, get_or, set, replicate, ℤ, pos, ◌+ℤ◌, Float, None, Option, Some}
+use Rattle.std.specs.Float.{binary64}
+use Rattle.std.specs.Float.Ieee.{neg, sub, mul, div, lt, of_int}
 use Rattle.base.specs.Choice.{pick}
 use Rattle.float.specs.Leaf.{f0, range_of, nudge}
 use Rattle.protocol.specs.Protocol.{kind_of, channel_of}
@@ -10,7 +12,7 @@ use Rattle.lookup.specs.Lookup.{same_dest}
 use Rattle.lookup.specs.View.{View}
 use Rattle.lookup.specs.declared.Destination.{Destination}
 use Rattle.drivers.specs.Answers.{is_done}
-use Rattle.drivers.specs.Talk.{Reply, no_reply, start, plain_call, write_call, level_of}
+use Rattle.drivers.specs.Talk.{Reply, no_reply, start, plain_call, write_call, level_of, read_of}
 use Rattle.drivers.specs.Paired.{Asked, paired}
 use Rattle.drivers.specs.declared.Call.{Call}
 use Rattle.drivers.specs.declared.Answer.{Answer}
@@ -24,8 +26,8 @@ use Rattle.event.specs.declared.Input.{Input}
 use Rattle.event.specs.declared.Input.TheVariants as input
 use Rattle.event.specs.declared.Timed.{Timed}
 use Rattle.definition.specs.Rig.{Rig, rig_of, destination, encoder_dest}
-use Rattle.definition.specs.Levels.{normal, read}
-use Rattle.definition.specs.Faders.{is_held, is_zero}
+use Rattle.definition.specs.Levels.{normal}
+use Rattle.definition.specs.Faders.{is_zero}
 use Rattle.definition.specs.Banks.{next_bank}
 use Rattle.definition.specs.Buttons.{or_first}
 use Rattle.definition.specs.Step.{Site, Kept, fresh_kept, Ended, done, refused, waiting, Stepped, stepped, step}
@@ -75,9 +77,9 @@ past_at (done messages calls used saved) e w z answers =
 past_at (refused n) e w z answers = None
 past_at (waiting c) e w z answers = None
 
-abbrev pub past_of : Option Timed → Site → List ℕ → Stepped → Option Past
-past_of (Some e) w answers r = past_at r.ended e.what w r.kept.site answers
-past_of None w answers r = None
+abbrev pub past_of : Option Timed → Site → Site → List ℕ → Ended → Option Past
+past_of (Some e) w z answers x = past_at x e.what w z answers
+past_of None w z answers x = None
 
 -- an event, as it was read, and the answers that are there when it is offered. One that cannot be read, number 10, is offered in vain
 pub record Offer : Type 0 where
@@ -92,11 +94,13 @@ abbrev pub step_of : Stepper → View → Kept → Option Timed → List ℕ →
 step_of f v k (Some e) answers = f v k e answers
 step_of f v k None answers = stepped (refused 10) k
 
-unfoldable pub pasts : Stepper → View → Kept → List Offer → List (Option Past)
-pasts f v k [] = []
-pasts f v k (o ∷ os) =
-    past_of o.event k.site o.answers (step_of f v k o.event o.answers)
-    ∷ pasts f v (step_of f v k o.event o.answers).kept os
+-- How each event ended, and its calls, are those of the step that is judged, which runs on k. The current bank and the live lists are the definition's, which
+-- runs on d: a step that stays in the wrong bank is not believed
+unfoldable pub pasts : Stepper → View → Kept → Kept → List Offer → List (Option Past)
+pasts f v k d [] = []
+pasts f v k d (o ∷ os) =
+    past_of o.event d.site (step_of step v d o.event o.answers).kept.site o.answers (step_of f v k o.event o.answers).ended
+    ∷ pasts f v (step_of f v k o.event o.answers).kept (step_of step v d o.event o.answers).kept os
 
 unfoldable pub final : Stepper → View → Kept → List Offer → Kept
 final f v k [] = k
@@ -149,13 +153,49 @@ blank =
       drains = [];
     }
 
--- "the device reads c": the definition's read, made on the answers that the event was offered. What the event's calls show does not count: a bridge that
--- does not ask where the rule asks would be believed
+-- The device's level, if it can be read: the definition's use of the driver, made on the answers that the event was offered. What the event's calls show does
+-- not count: a bridge that does not ask where the rule asks would be believed
 unfoldable pub reading : Destination → List ℕ → List Bool → Option Float
-reading d answers o = (read d (start answers o)).value
+reading d answers o = (read_of d.driver d.target (start answers o)).value
 
 abbrev pub rig_in : View → Site → Rig
 rig_in v w = rig_of v w.lives w.bank
+
+-- ── the rule by which a move is held ──
+
+-- Written out from document 01, not taken from the definition: proofs/HeldRule shows that the two agree
+
+abbrev pub whole_number : ℕ → Float
+whole_number n = of_int binary64 (pos n)
+
+-- 0.02, the f64 nearest to 2 / 100
+abbrev pub two_hundredths : Float
+two_hundredths = div binary64 (whole_number 2) (whole_number 100)
+
+-- held in 0 to 1; a NaN stays one
+abbrev pub on_travel : Float → Float
+on_travel x = pick (lt x (whole_number 0)) (whole_number 0) (pick (lt (whole_number 1) x) (whole_number 1) x)
+
+-- c, the device's level as a fader's value: 0 at low and 1 at high
+abbrev pub as_value : Float → Float → Float → Float
+as_value low high level = on_travel (div binary64 (sub binary64 level low) (sub binary64 high low))
+
+-- "|value - c| > 0.02": value - c is above 0.02 or below -0.02
+abbrev pub away_from : Float → Float → Bool
+away_from c value = lt two_hundredths (sub binary64 value c) || lt (sub binary64 value c) (neg two_hundredths)
+
+-- "the last move p there, if any, does not give (p - c)(value - c) < 0"
+abbrev pub crosses : Option Float → Float → Float → Bool
+crosses (Some p) c value = lt (mul binary64 (sub binary64 p c) (sub binary64 value c)) (whole_number 0)
+crosses None c value = false
+
+abbrev pub held_against : Option Float → Float → Float → Bool
+held_against last c value = away_from c value && not (crosses last c value)
+
+-- by the last move there, the device's level, its destination's range, and the move's value. Without a level nothing is held
+abbrev pub held_by_rule : Option Float → Option Float → Float → Float → Float → Bool
+held_by_rule last (Some level) low high value = held_against last (as_value low high level) value
+held_by_rule last None low high value = false
 
 -- ── a move ──
 
@@ -202,12 +242,15 @@ book_if true key m a = book_held key m a
 book_if false key m a = book_taken key m a
 
 -- "held exactly if takeover is on, no mark stands for (bank, channel), the device reads c, |value - c| > 0.02, and the last move p there, if any, does not
--- give (p - c)(value - c) < 0"; a move without a destination changes nothing
+-- give (p - c)(value - c) < 0"
+abbrev pub holds : Destination → ℕ → Waits → List ℕ → Account → Bool
+holds d key m answers a =
+    (d.takeover && not (is_marked key a.marks))
+    && held_by_rule (last_move key a.last) (reading d answers a.opened) d.low d.high m.level
+
+-- a move without a destination changes nothing
 abbrev pub book_move : Option Destination → ℕ → Waits → List ℕ → Account → Account
-book_move (Some d) key m answers a =
-    book_if
-    ((d.takeover && not (is_marked key a.marks)) && is_held (reading d answers a.opened) (last_move key a.last) m.level)
-    key m a
+book_move (Some d) key m answers a = book_if (holds d key m answers a) key m a
 book_move None key m answers a = a
 
 -- ── a turn ──
@@ -450,24 +493,24 @@ unfoldable pub ticks : List (Option Past) → List (List Asked)
 ticks [] = []
 ticks (x ∷ xs) = tick_at x ++ ticks xs
 
--- what the finished moves and turns asked
-abbrev pub moved_in : Input → List Asked → List Asked
-moved_in (input.Midi (event.Fader ch x)) l = l
-moved_in (input.Midi (event.Encoder ch n)) l = l
-moved_in (input.Midi (event.Button b)) l = []
-moved_in (input.Midi event.Other) l = []
-moved_in input.Tick l = []
-moved_in input.PushState l = []
-moved_in input.PushTransport l = []
-moved_in input.FlashBank l = []
+-- What the other finished events asked, but for a press of mute or solo (kinds 2 and 1), which write levels themselves
+abbrev pub other_in : Input → List Asked → List Asked
+other_in (input.Midi (event.Fader ch x)) l = l
+other_in (input.Midi (event.Encoder ch n)) l = l
+other_in (input.Midi (event.Button b)) l = pick (b.pressed && (eqb (kind_of b.note) 2 || eqb (kind_of b.note) 1)) [] l
+other_in (input.Midi event.Other) l = l
+other_in input.Tick l = []
+other_in input.PushState l = l
+other_in input.PushTransport l = l
+other_in input.FlashBank l = l
 
-abbrev pub moved_at : Option Past → List Asked
-moved_at None = []
-moved_at (Some x) = moved_in x.what x.asked
+abbrev pub other_at : Option Past → List Asked
+other_at None = []
+other_at (Some x) = other_in x.what x.asked
 
-unfoldable pub moved : List (Option Past) → List Asked
-moved [] = []
-moved (x ∷ xs) = moved_at x ++ moved xs
+unfoldable pub others : List (Option Past) → List Asked
+others [] = []
+others (x ∷ xs) = other_at x ++ others xs
 
 -- ── what a drain asks ──
 
@@ -564,8 +607,8 @@ pub record Holds (v : View) (ps : List (Option Past)) (k : Kept) (a : Account) :
   pub once : (i : ℕ) → count i (moves v 0 ps) ≤ 1
   -- the account's drains are the finished ticks, one for one, and what each drain asked is what the account says
   pub drains : Each Drained (ticks ps) a.drains
-  -- a move or a turn itself writes nothing: it waits for a drain
-  pub quiet : Only not_write (moved ps)
+  -- no other finished event writes, but a press of mute or solo: a move or a turn waits for a drain
+  pub quiet : Only not_write (others ps)
   -- for each destination, its turns are what was handed over and what waits
   pub turned : (d : Destination) → sum_for d (turns v ps) ≡ sum_for d (handed a.drains) +ℤ sum_for d a.sums
 
@@ -576,7 +619,7 @@ fresh = fresh_kept
 abbrev pub ClaimFrom : Kept → Stepper → Type 0
 ClaimFrom k f =
     (v : View) (few : v.banks ≤ 16) (os : List Offer) →
-    Holds v (pasts f v k os) (final f v k os) (account v 0 (pasts f v k os) blank)
+    Holds v (pasts f v k k os) (final f v k os) (account v 0 (pasts f v k k os) blank)
 
 abbrev pub Claim : Stepper → Type 0
 Claim f = ClaimFrom fresh f

@@ -55,10 +55,10 @@ ends_so p ok s shaped (x ∷ xs) z (d, q) =
     ∙ ends_so p ok x.result.session (stays-shaped _ _ _ _ _ _ _ _ d shaped) xs z q
 
 pub demand_3_running : (p : List ℕ) → verdict p ≡ 0 → (xs : List Step) (z : Session) → Runs p fresh_session xs z →
-    Holds (view_of p) (pasts step (view_of p) fresh_kept (map offer_of xs)) (seen p z) (account (view_of p) 0 (pasts step (view_of p) fresh_kept (map offer_of xs)) blank)
+    Holds (view_of p) (pasts step (view_of p) fresh_kept fresh_kept (map offer_of xs)) (seen p z) (account (view_of p) 0 (pasts step (view_of p) fresh_kept fresh_kept (map offer_of xs)) blank)
 demand_3_running p ok xs z q =
     let end : final step (view_of p) fresh_kept (map offer_of xs) ≡ seen p z =
     ap (λ (k : Kept). final step (view_of p) k (map offer_of xs)) (sym (fresh-seen p)) ∙ ends_so p ok fresh_session (fresh-shaped p ok) xs z q in
     subst
-    (λ (k : Kept). Holds (view_of p) (pasts step (view_of p) fresh_kept (map offer_of xs)) k (account (view_of p) 0 (pasts step (view_of p) fresh_kept (map offer_of xs)) blank))
+    (λ (k : Kept). Holds (view_of p) (pasts step (view_of p) fresh_kept fresh_kept (map offer_of xs)) k (account (view_of p) 0 (pasts step (view_of p) fresh_kept fresh_kept (map offer_of xs)) blank))
     end (demand_3_of p ok (map offer_of xs))

@@ -1,1 +1,4 @@
+pub mod Exchanges
 pub mod Demands
+pub mod Seen
+pub mod Hosted

@@ -1,1 +1,3 @@
 pub mod Running
+pub mod Shown
+pub mod Hosted

@@ -29,7 +29,10 @@ unfoldable pub Runs : List ℕ → Session → List Step → Session → Type 0
 Runs p s [] z = s ≡ z
 Runs p s (x ∷ xs) z = Does p s x × Runs p x.result.session xs z
 
--- what the account is offered: an event whose buffers are too short, number 9, is offered in vain, as one that cannot be read is
+-- what the account is offered, by the lengths of both buffers: an event whose buffers are too short, number 9, is offered in vain, as one that cannot be read is
+abbrev pub offer_with : List ℕ → List ℕ → ℕ → ℕ → Offer
+offer_with event answers messages calls =
+    record { event = pick (ltb messages 306 || ltb calls 5392) None (read_of event); answers = answers }
+
 abbrev pub offer_of : Step → Offer
-offer_of x =
-    record { event = pick (ltb (length x.messages) 306 || ltb (length x.calls) 5392) None (read_of x.event); answers = x.answers }
+offer_of x = offer_with x.event x.answers (length x.messages) (length x.calls)

@@ -7,5 +7,6 @@ pub mod FloatEq
 pub mod Counts
 pub mod Theorem
 pub mod Teeth
+pub mod WrongBridges
 pub mod Starred
 pub mod Words

@@ -41,25 +41,25 @@ use Rattle.account.specs.Account.{done_reply, answer_in, opens, loads, pasts, fi
 
 -- ── events ──
 
-abbrev at : Input → List ℕ → Offer
+abbrev pub at : Input → List ℕ → Offer
 at e answers = record { event = Some (timed e); answers = answers }
 
 -- 0.75
-abbrev most : Float
+abbrev pub most : Float
 most = of_bits binary64 0x3fe8_0000_0000_0000
 
 abbrev head_channel : List Move → ℕ
 head_channel [] = 0
 head_channel (m ∷ l) = m.channel
 
-abbrev head_is : Float → List Move → Bool
+abbrev pub head_is : Float → List Move → Bool
 head_is x [] = false
 head_is x (m ∷ l) = eq m.level x
 
-abbrev with_desk : Desk → Stepped → Stepped
+abbrev pub with_desk : Desk → Stepped → Stepped
 with_desk d r = stepped r.ended (kept r.kept.site d r.kept.lamps r.kept.silenced r.kept.opened)
 
-abbrev with_line : List Move → Desk → Desk
+abbrev pub with_line : List Move → Desk → Desk
 with_line l d = desk d.marks d.moves l d.turns
 
 -- ── 1: it drains only on its first tick, after which the live list is due no more ──

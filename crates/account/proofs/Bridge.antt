@@ -38,7 +38,7 @@ use Rattle.definition.specs.Step.{Site, Kept, kept, Left, unmarked, press_at, on
 use Rattle.account.specs.Account.{opens, Account, Waits, Drain, Drained, Each, no_more, one_more, reading, rig_in, held_by_rule, lined, book_if, book_move, summed, book_turn, book_press, selects, same_live, live_at, book_live, book_drain, book_event, tried_of, try_at, drain_of, reading_of, read_as, writing, Uses, used, opened-used, not-used, Tries, tried-all, tried-one, Nudges, nudged-all, zero_sum, not-read, nudged, Only, no_call, one-call, not_write, in_session, tick_in, other_in}
 use Rattle.account.proofs.Grown.{Grown, Goes, same, weaken, join, send_ok, use_ok}
 use Rattle.account.proofs.Frame.{only_append, makes_push, makes_flash_bank, makes_tick_flash, makes_refresh, makes_transport}
-use Rattle.account.proofs.HeldRule.{held_rule, reads_so}
+use Rattle.account.proofs.HeldRule.{held_rule, read_is}
 use Rattle.account.proofs.Presses.{button_ok_lem, button_quiet}
 
 -- the desk that an account stands for
@@ -99,7 +99,7 @@ module _ (key : ℕ) (m : Waits) (a : Account) (answers : List ℕ) where
   held_booked d =
       let held = held_by_rule (last_move key a.last) (reading d answers a.opened) d.low d.high m.level in
       let e : is_held (read d (start answers a.opened)).value (last_move key a.last) m.level ≡ held =
-      ap (λ (c : Option Float). is_held c (last_move key a.last) m.level) (reads_so d answers a.opened)
+      ap (λ (c : Option Float). is_held c (last_move key a.last) m.level) (read_is d answers a.opened)
       ∙ sym (held_rule d (last_move key a.last) (reading d answers a.opened) m.level) in
       ap (λ (b : Bool). moved_if b key m.channel m.level (desk_of a)) e ∙ moved_booked held key m a
 

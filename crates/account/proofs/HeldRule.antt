@@ -14,17 +14,17 @@ use Rattle.account.specs.Account.{reading, whole_number, two_hundredths, as_valu
 
 -- ── the numbers ──
 
-zero-is : whole_number 0 ≡ f0
+zero_is : whole_number 0 ≡ f0
 unfolding of_int of_bits
-zero-is = refl
+zero_is = refl
 
-one-is : whole_number 1 ≡ f1
+one_is : whole_number 1 ≡ f1
 unfolding of_int of_bits
-one-is = refl
+one_is = refl
 
-near-is : two_hundredths ≡ near
+near_is : two_hundredths ≡ near
 unfolding of_int of_bits div
-near-is = refl
+near_is = refl
 
 -- ── farther off than 0.02 ──
 
@@ -36,29 +36,29 @@ farther (inf false) = refl
 farther (fin true m e) = refl
 farther (fin false m e) = or-false _
 
-away-is : (c value : Float) → away_from c value ≡ far_of value c
-away-is c value = rw near-is (farther (sub binary64 value c))
+away_is : (c value : Float) → away_from c value ≡ far_of value c
+away_is c value = rw near_is (farther (sub binary64 value c))
 
 -- ── the rule ──
 
-value-is : (low high level : Float) → as_value low high level ≡ normalise low high level
+value_is : (low high level : Float) → as_value low high level ≡ normalise low high level
 unfolding clamp_of
-value-is low high level = rw (zero-is, one-is)
+value_is low high level = rw (zero_is, one_is)
 
-crosses-is : (last : Option Float) (c value : Float) → crosses last c value ≡ crossed_from last c value
-crosses-is (Some p) c value = rw zero-is
-crosses-is None c value = refl
+crosses_is : (last : Option Float) (c value : Float) → crosses last c value ≡ crossed_from last c value
+crosses_is (Some p) c value = rw zero_is
+crosses_is None c value = refl
 
-against-is : (last : Option Float) (c value : Float) → held_against last c value ≡ far_of value c && not (crossed_from last c value)
-against-is last c value = rw (away-is c value, crosses-is last c value)
+against_is : (last : Option Float) (c value : Float) → held_against last c value ≡ far_of value c && not (crossed_from last c value)
+against_is last c value = rw (away_is c value, crosses_is last c value)
 
 pub held_rule : (d : Destination) (last level : Option Float) (value : Float) →
     held_by_rule last level d.low d.high value ≡ is_held (normal d level) last value
 held_rule d last (Some level) value =
-    ap (λ (c : Float). held_against last c value) (value-is d.low d.high level) ∙ against-is last (normalise d.low d.high level) value
+    ap (λ (c : Float). held_against last c value) (value_is d.low d.high level) ∙ against_is last (normalise d.low d.high level) value
 held_rule d last None value = refl
 
 -- the definition reads what the account reads
-pub reads_so : (d : Destination) (answers : List ℕ) (o : List Bool) → (read d (start answers o)).value ≡ normal d (reading d answers o)
+pub read_is : (d : Destination) (answers : List ℕ) (o : List Bool) → (read d (start answers o)).value ≡ normal d (reading d answers o)
 unfolding read reading next
-reads_so d answers o = refl
+read_is d answers o = refl

@@ -120,19 +120,19 @@ module _ {K : ℕ → Bool} (k : Lets K) where
       go None = bind (makes_on_device h names) (λ p. still)
 
   -- what follows a load
-  makes_loaded : (r : Rig) (s : List ℕ) (i : ℕ) (l : Lamps) (b : Bool) → Asks K (loaded_if b r s i l)
-  makes_loaded r s i l true = giving (makes_push k.opens k.reads r _ s)
-  makes_loaded r s i l false = still
+  makes_loaded_if : (r : Rig) (s : List ℕ) (i : ℕ) (l : Lamps) (b : Bool) → Asks K (loaded_if b r s i l)
+  makes_loaded_if r s i l true = giving (makes_push k.opens k.reads r _ s)
+  makes_loaded_if r s i l false = still
 
-  makes_shown : (r : Rig) (s : List ℕ) (m : Moves) (now : Float) (i : ℕ) (l : Lamps) (saved b : Bool) → Asks K (shown_if b r s m now i l saved)
+  makes_shown_if : (r : Rig) (s : List ℕ) (m : Moves) (now : Float) (i : ℕ) (l : Lamps) (saved b : Bool) → Asks K (shown_if b r s m now i l saved)
   unfolding next
-  makes_shown r s m now i l saved true = bind (makes_number k.opens k.reads r s m now i 8 l) (λ z. still {a = paged z true true})
-  makes_shown r s m now i l saved false = still
+  makes_shown_if r s m now i l saved true = bind (makes_number k.opens k.reads r s m now i 8 l) (λ z. still {a = paged z true true})
+  makes_shown_if r s m now i l saved false = still
 
-  makes_asked : (r : Rig) (s : List ℕ) (m : Moves) (now : Float) (n : ℕ) (l : Lamps) (b : Bool) → Asks K (scene_if b r s m now n l)
+  makes_scene_if : (r : Rig) (s : List ℕ) (m : Moves) (now : Float) (n : ℕ) (l : Lamps) (b : Bool) → Asks K (scene_if b r s m now n l)
   unfolding next
-  makes_asked r s m now n l true = bind (makes_number k.opens k.reads r s m now (n - 1) 8 (loaded_by n l)) (λ z. still {a = paged z true true})
-  makes_asked r s m now n l false = still
+  makes_scene_if r s m now n l true = bind (makes_number k.opens k.reads r s m now (n - 1) 8 (loaded_by n l)) (λ z. still {a = paged z true true})
+  makes_scene_if r s m now n l false = still
 
   -- ── with its loads ──
 
@@ -155,7 +155,7 @@ module _ {K : ℕ → Bool} (k : Lets K) where
       where
         go : (b : Bool) (names : List ℕ) → Asks K (load_at_if b r s i l names)
         go true names = still
-        go false names = bind (makes_load_on (device r.here) (get_or names i 65535) i) (makes_loaded r s i l)
+        go false names = bind (makes_load_on (device r.here) (get_or names i 65535) i) (makes_loaded_if r s i l)
 
     makes_page : (right : Bool) (r : Rig) (s : List ℕ) (m : Moves) (now : Float) (l : Lamps) → Asks K (step_scene right r s m now l)
     unfolding step_scene next
@@ -163,7 +163,7 @@ module _ {K : ℕ → Bool} (k : Lets K) where
       where
         go : (b : Bool) (i : ℕ) (x : Started) → Asks K (page_if b r s m now i x)
         go true i x = still
-        go false i x = bind (makes_scene_at r s i x.lamps) (λ z. makes_shown r s m now i z.lamps x.saved z.ok)
+        go false i x = bind (makes_scene_at r s i x.lamps) (λ z. makes_shown_if r s m now i z.lamps x.saved z.ok)
 
         at : (b : Bool) (names : List ℕ) → Asks K (step_scene_if b right r s m now l names)
         at true names = still
@@ -173,7 +173,7 @@ module _ {K : ℕ → Bool} (k : Lets K) where
 
     makes_scene : (r : Rig) (s : List ℕ) (m : Moves) (now : Float) (n : ℕ) (l : Lamps) → Asks K (scene r s m now n l)
     unfolding scene next
-    makes_scene r s m now n l = bind (makes_scene_at r s (n - 1) l) (λ z. makes_asked r s m now n z.lamps z.ok)
+    makes_scene r s m now n l = bind (makes_scene_at r s (n - 1) l) (λ z. makes_scene_if r s m now n z.lamps z.ok)
 
   -- ── a bank is selected ──
 
@@ -404,7 +404,7 @@ loads-scene_at r s i l =
 
     go : (b : Bool) (names : List ℕ) → Loads ok_of (load_at_if b r s i l names)
     go true names = quiet still (λ t. refl)
-    go false names = quiet_then itself (loads_on (device r.here) (get_or names i 65535) i) (makes_loaded no_loads r s i l) value
+    go false names = quiet_then itself (loads_on (device r.here) (get_or names i 65535) i) (makes_loaded_if no_loads r s i l) value
 
 loads-page : (right : Bool) (r : Rig) (s : List ℕ) (m : Moves) (now : Float) (l : Lamps) → Loads loaded_of (step_scene right r s m now l)
 unfolding step_scene next
@@ -417,7 +417,7 @@ loads-page right r s m now l = quiet_first (makes_names no_loads r.here) (λ nam
     go : (b : Bool) (i : ℕ) (x : Started) → Loads loaded_of (page_if b r s m now i x)
     go true i x = quiet still (λ t. refl)
     go false i x =
-        quiet_then ok_of (loads-scene_at r s i x.lamps) (λ k. makes_shown no_loads r s m now i k.lamps x.saved k.ok) (λ k t. value i x.saved k.lamps k.ok t)
+        quiet_then ok_of (loads-scene_at r s i x.lamps) (λ k. makes_shown_if no_loads r s m now i k.lamps x.saved k.ok) (λ k t. value i x.saved k.lamps k.ok t)
 
     at : (b : Bool) (names : List ℕ) → Loads loaded_of (step_scene_if b right r s m now l names)
     at true names = quiet still (λ t. refl)
@@ -427,7 +427,7 @@ loads-page right r s m now l = quiet_first (makes_names no_loads r.here) (λ nam
 
 loads-scene : (r : Rig) (s : List ℕ) (m : Moves) (now : Float) (n : ℕ) (l : Lamps) → Loads loaded_of (scene r s m now n l)
 unfolding scene next
-loads-scene r s m now n l = quiet_then ok_of (loads-scene_at r s (n - 1) l) (λ k. makes_asked no_loads r s m now n k.lamps k.ok) (λ k t. value k.lamps k.ok t)
+loads-scene r s m now n l = quiet_then ok_of (loads-scene_at r s (n - 1) l) (λ k. makes_scene_if no_loads r s m now n k.lamps k.ok) (λ k t. value k.lamps k.ok t)
   where
     value : (k : Lamps) (b : Bool) (t : Talk) → loaded_of (scene_if b r s m now n k t).value ≡ b
     value k true t = refl

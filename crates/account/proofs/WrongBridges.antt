@@ -307,19 +307,19 @@ or_one (Some x) = x
 or_one None = f1
 
 -- one sum of 2 whose driver is not open: an open, a read of 0, and a write of 2/64
-third_so : {o : List Bool} {l : List Asked} (rest asked : List Asked) → Nudges o (first_turn (dest false) (pos 2) ∷ []) l → asked ≡ l ++ rest →
+third_level : {o : List Bool} {l : List Asked} (rest asked : List Asked) → Nudges o (first_turn (dest false) (pos 2) ∷ []) l → asked ≡ l ++ rest →
     kind_first asked ≡ 0 → done_first asked ≡ true → reply_second asked ≡ record { answer = answer.Level f0; items = [] } → kind_third asked ≡ 2 →
     level_third asked ≡ (writing (dest false) (nudge f0 (pos 2))).level
 unfolding plain_call write_call of_bits eq lt le sub div clamp_of
-third_so rest asked (zero_sum z n) e k d s h = absurd (false≢true z)
-third_so rest asked (not-read {l = l} z u q n) e k d s h = go u q e
+third_level rest asked (zero_sum z n) e k d s h = absurd (false≢true z)
+third_level rest asked (not-read {l = l} z u q n) e k d s h = go u q e
   where
     go : {o : List Bool} {m : List Asked} {r : Reply} → Uses o (reading_of (dest false)) r m → read_as (dest false) r ≡ None → asked ≡ (m ++ l) ++ rest →
         level_third asked ≡ (writing (dest false) (nudge f0 (pos 2))).level
     go (used n) q e = let z : ◌≡◌ {A = ℕ} 1 0 = sym (ap kind_first e) ∙ k in omega arith
     go (opened-used n) q e = absurd (false≢true (sym (ap is_some (ap (read_as (dest false)) (sym s ∙ ap reply_second e) ∙ q))))
     go (not-used n) q e = absurd (false≢true (sym (ap done_first e) ∙ d))
-third_so rest asked (nudged {c = c} {l = l} z u q u' n) e k d s h = go u q u' e
+third_level rest asked (nudged {c = c} {l = l} z u q u' n) e k d s h = go u q u' e
   where
     put : {o : List Bool} {m : List Asked} {r q' : Reply} → f0 ≡ c → Uses o (writing (dest false) (nudge c (pos 2))) q' m →
         asked ≡ ((saying (open_of (reading_of (dest false))) done_reply ∷ saying (reading_of (dest false)) r ∷ []) ++ (m ++ l)) ++ rest →
@@ -335,9 +335,9 @@ third_so rest asked (nudged {c = c} {l = l} z u q u' n) e k d s h = go u q u' e
     go (not-used n) q u' e = absurd (false≢true (sym (ap done_first e) ∙ d))
 
 -- 2/64
-two_so : (writing (dest false) (nudge f0 (pos 2))).level ≡ 0x3fa0_0000_0000_0000
+two_64ths : (writing (dest false) (nudge f0 (pos 2))).level ≡ 0x3fa0_0000_0000_0000
 unfolding write_call add sub mul div lt le eq of_int of_bits to_bits abs_of clamp_of
-two_so = refl
+two_64ths = refl
 
 -- two turns of 1 and a tick: it writes 1/64, reads 0 again, and writes 1/64 again
 pub never_merges_refuted : Claim never_merges → ⊥
@@ -352,5 +352,5 @@ never_merges_refuted c =
         kind_first asked ≡ 0 → done_first asked ≡ true → reply_second asked ≡ record { answer = answer.Level f0; items = [] } → kind_third asked ≡ 2 →
         level_third asked ≡ 0x3f90_0000_0000_0000 → ⊥
     go {asked = asked} (one_more d x) k f s h l =
-        let z : ◌≡◌ {A = ℕ} 0x3f90_0000_0000_0000 0x3fa0_0000_0000_0000 = sym l ∙ third_so (d.faders ++ d.later) asked d.first d.all k f s h ∙ two_so in
+        let z : ◌≡◌ {A = ℕ} 0x3f90_0000_0000_0000 0x3fa0_0000_0000_0000 = sym l ∙ third_level (d.faders ++ d.later) asked d.first d.all k f s h ∙ two_64ths in
         omega arith

@@ -15,10 +15,10 @@ use Rattle.demands.specs.Running.{Step, Runs, offer_of}
 use Rattle.demands.specs.Shown.{exchange_of, offer_in}
 use Rattle.demands.proofs.Exchanges.{GivesAll, ends_so}
 
-pub runs_so : (p : List ℕ) (s : Session) (xs : List Step) (z : Session) → Runs p s xs z → GivesAll p s (map exchange_of xs) z
+pub run_gives : (p : List ℕ) (s : Session) (xs : List Step) (z : Session) → Runs p s xs z → GivesAll p s (map exchange_of xs) z
 unfolding Runs GivesAll
-runs_so p s [] z q = q
-runs_so p s (x ∷ xs) z (d, q) = ((d.outcome, d.leaves), runs_so p x.result.session xs z q)
+run_gives p s [] z q = q
+run_gives p s (x ∷ xs) z (d, q) = ((d.outcome, d.leaves), run_gives p x.result.session xs z q)
 
 same_offers : (xs : List Step) → map offer_in (map exchange_of xs) ≡ map offer_of xs
 same_offers [] = refl
@@ -30,7 +30,7 @@ demand_3_running p ok xs z q =
     let end : final step (view_of p) fresh_kept (map offer_of xs) ≡ seen p z =
     ap (λ (k : Kept). final step (view_of p) k (map offer_of xs)) (sym (fresh-seen p))
     ∙ ap (final step (view_of p) (seen p fresh_session)) (sym (same_offers xs))
-    ∙ ends_so p ok fresh_session (fresh-shaped p ok) (map exchange_of xs) z (runs_so p fresh_session xs z q) in
+    ∙ ends_so p ok fresh_session (fresh-shaped p ok) (map exchange_of xs) z (run_gives p fresh_session xs z q) in
     subst
     (λ (k : Kept). Holds (view_of p) (pasts step (view_of p) fresh_kept fresh_kept (map offer_of xs)) k (account (view_of p) 0 (pasts step (view_of p) fresh_kept fresh_kept (map offer_of xs)) blank))
     end (demand_3_of p ok (map offer_of xs))

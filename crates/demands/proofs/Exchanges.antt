@@ -83,11 +83,11 @@ module _ (p : List ℕ) (ok : verdict p ≡ 0) (s : Session) (shaped : well_shap
       room_at_lem false = read_at (read_of event)
 
   -- and is seen to do what that step does
-  shows_so : (event answers : List ℕ) (m c : ℕ) (old : List ℕ) (w z : Site) →
+  whole_shown : (event answers : List ℕ) (m c : ℕ) (old : List ℕ) (w z : Site) →
       shown_of (read_of event) (outcome_of (whole p s event answers m c).ended) w z answers (calls_after (whole p s event answers m c).ended old)
       ≡ past_of (offer_with event answers m c).event w z answers (step_of step (view_of p) (seen p s) (offer_with event answers m c).event answers).ended
   unfolding whole
-  shows_so event answers m c old w z = rw (eq-eqb (verdict p) 0 ok, shaped) (room_at_lem (ltb m 306 || ltb c 5392))
+  whole_shown event answers m c old w z = rw (eq-eqb (verdict p) 0 ok, shaped) (room_at_lem (ltb m 306 || ltb c 5392))
     where
       read_at : (r : Option Timed) →
           shown_of r (outcome_of (offered r p (seen p s) answers).ended) w z answers (calls_after (offered r p (seen p s) answers).ended old)
@@ -116,7 +116,7 @@ module _ (p : List ℕ) (ok : verdict p ≡ 0) (s : Session) (shaped : well_shap
     pub one_shown : (w z : Site) →
         shown_of (read_of x.event) x.outcome w z x.answers x.calls_after
         ≡ past_of (offer_in x).event w z x.answers (step_of step (view_of p) (seen p s) (offer_in x).event x.answers).ended
-    one_shown w z = rw (g.0, g.1.calls) (shows_so x.event x.answers (length x.messages) (length x.calls) x.calls w z)
+    one_shown w z = rw (g.0, g.1.calls) (whole_shown x.event x.answers (length x.messages) (length x.calls) x.calls w z)
 
 -- ── all of them ──
 
@@ -128,15 +128,15 @@ ends_so p ok s shaped (x ∷ xs) z (d, q) =
     ap (λ (k : Kept). final step (view_of p) k (map offer_in xs)) (sym (next_seen p ok s shaped x d))
     ∙ ends_so p ok x.session (next_shaped p ok s shaped x d) xs z q
 
-pub shown_so : (p : List ℕ) → verdict p ≡ 0 → (s : Session) → well_shaped p s ≡ true → (xs : List Exchange) (z : Session) → GivesAll p s xs z →
+pub all_shown : (p : List ℕ) → verdict p ≡ 0 → (s : Session) → well_shaped p s ≡ true → (xs : List Exchange) (z : Session) → GivesAll p s xs z →
     shown p (seen p s) xs ≡ pasts step (view_of p) (seen p s) (seen p s) (map offer_in xs)
 unfolding GivesAll shown pasts
-shown_so p ok s shaped [] z q = refl
-shown_so p ok s shaped (x ∷ xs) z (d, q) =
+all_shown p ok s shaped [] z q = refl
+all_shown p ok s shaped (x ∷ xs) z (d, q) =
     let k : Kept = (step_of step (view_of p) (seen p s) (offer_in x).event x.answers).kept in
     let rest : shown p k xs ≡ pasts step (view_of p) k k (map offer_in xs) =
     subst (λ (k : Kept). shown p k xs ≡ pasts step (view_of p) k k (map offer_in xs)) (next_seen p ok s shaped x d)
-    (shown_so p ok x.session (next_shaped p ok s shaped x d) xs z q) in
+    (all_shown p ok x.session (next_shaped p ok s shaped x d) xs z q) in
     ap (λ (y : Option Past). y ∷ shown p k xs) (one_shown p ok s shaped x d (seen p s).site k.site)
     ∙ ap
     (λ (l : List (Option Past)). past_of (offer_in x).event (seen p s).site k.site x.answers (step_of step (view_of p) (seen p s) (offer_in x).event x.answers).ended ∷ l)

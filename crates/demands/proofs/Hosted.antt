@@ -10,7 +10,7 @@ use Rattle.host.specs.Report.{report_of}
 use Rattle.demands.specs.Shown.{HoldsOf}
 use Rattle.demands.specs.Hosted.{Entry, Hosts, told_by, exchange_by}
 use Rattle.demands.proofs.Exchanges.{GivesAll}
-use Rattle.demands.proofs.Seen.{holds_so}
+use Rattle.demands.proofs.Seen.{account_holds}
 
 -- the report's fields tell the outcome
 told_back : (o : Told) → told_by (report_of o) ≡ o
@@ -18,10 +18,10 @@ told_back (Done messages calls used saved) = refl
 told_back (Refused n) = refl
 told_back (Waiting c) = refl
 
-hosts_so : (p : List ℕ) (s : Session) (xs : List Entry) (z : Session) → Hosts p s xs z → GivesAll p s (map exchange_by xs) z
+host_gives : (p : List ℕ) (s : Session) (xs : List Entry) (z : Session) → Hosts p s xs z → GivesAll p s (map exchange_by xs) z
 unfolding Hosts GivesAll
-hosts_so p s [] z q = q
-hosts_so p s (x ∷ xs) z (d, q) = ((ap told_by d.0 ∙ told_back _, d.1), hosts_so p x.session xs z q)
+host_gives p s [] z q = q
+host_gives p s (x ∷ xs) z (d, q) = ((ap told_by d.0 ∙ told_back _, d.1), host_gives p x.session xs z q)
 
 pub demand_3_hosted : (p : List ℕ) → verdict p ≡ 0 → (xs : List Entry) (z : Session) → Hosts p fresh_session xs z → HoldsOf p (map exchange_by xs) z
-demand_3_hosted p ok xs z q = holds_so p ok (map exchange_by xs) z (hosts_so p fresh_session xs z q)
+demand_3_hosted p ok xs z q = account_holds p ok (map exchange_by xs) z (host_gives p fresh_session xs z q)

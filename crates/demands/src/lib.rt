@@ -1,3 +1,3 @@
 #![tactic(auto)]
 
-// Demand 3 of the running bridge: laws in specs/ and proofs/; there is no function here.
+// Demand 3 of the running bridge, and of what a host sees of it: laws in specs/ and proofs/; there is no function here.

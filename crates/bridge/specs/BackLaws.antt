@@ -11,7 +11,7 @@ use Rattle.definition.specs.Whole.{whole}
 use Rattle.bounds.specs.Whole.{whole_so}
 use Rattle.bounds.specs.ReadBack.{ThreeOf, step_three, messages_back, calls_back}
 use Rattle.delivery.specs.Delivery.{messages_after, calls_after}
-use Rattle.bridge.specs.Bridge.{Delivers}
+use Rattle.bridge.specs.Bridge.{Delivers, Leaves}
 use Rattle.bridge.specs.declared.Stepped as declared
 
 -- the messages and calls of an event that ended so are read from the buffers ms and cs
@@ -30,9 +30,13 @@ module _ (p : List ℕ) (s : Session) (answers : List ℕ) where
   whole_three : (event : List ℕ) (messages calls : ℕ) → ThreeOf (whole p s event answers messages calls).ended
   whole_three event messages calls = whole_so p s event answers messages calls ThreeOf (λ why. tt) (λ e. step_three (view_of p) (seen p s) e answers)
 
+  pub leaves_back : (event : List ℕ) (messages calls : ℕ) (ms cs : List ℕ) (s₁ : Session) (ms₁ cs₁ : List ℕ) →
+      Leaves (whole p s event answers messages calls) p s ms cs s₁ ms₁ cs₁ → BackOf (whole p s event answers messages calls).ended ms₁ cs₁
+  leaves_back event messages calls ms cs s₁ ms₁ cs₁ h =
+      let e : Ended = (whole p s event answers messages calls).ended in
+      subst (λ (l : List ℕ). BackOf e l cs₁) (sym h.messages)
+      (subst (λ (l : List ℕ). BackOf e (messages_after e ms) l) (sym h.calls) (back_of e ms cs (whole_three event messages calls)))
+
   pub delivers_back : (event : List ℕ) (messages calls : ℕ) (ms cs : List ℕ) (r : declared.Stepped) (ms₁ cs₁ : List ℕ) →
       Delivers (whole p s event answers messages calls) p s ms cs r ms₁ cs₁ → BackOf (whole p s event answers messages calls).ended ms₁ cs₁
-  delivers_back event messages calls ms cs r ms₁ cs₁ h =
-      let e : Ended = (whole p s event answers messages calls).ended in
-      subst (λ (l : List ℕ). BackOf e l cs₁) (sym h.leaves.messages)
-      (subst (λ (l : List ℕ). BackOf e (messages_after e ms) l) (sym h.leaves.calls) (back_of e ms cs (whole_three event messages calls)))
+  delivers_back event messages calls ms cs r ms₁ cs₁ h = leaves_back event messages calls ms cs r.session ms₁ cs₁ h.leaves

@@ -1,36 +1,72 @@
--- Demand 3 of the running bridge: of every list of events offered to `bridge::step` from a fresh session over an accepted profile, refused, unknown and
--- waiting ones included, the account holds, and what waits in the session is the account's. Assumes nothing.
-use Prim.Native.Nat.{ℕ}
-use mathlib.Core.Path.{◌≡◌, refl, sym, ap, subst, ◌∙◌}
-use mathlib.Core.List.{List, [], ◌∷◌, map}
+-- The three demands, of `bridge::step` and of the exported entry `zelwydro_on_event`. `Does` and `Reports` are what these two promise, of every profile, session,
+-- event, list of answers and pair of buffers; nothing else is assumed.
+use Rattle.std.specs.Prelude.{ℕ, ◌≡◌, List, false, length, map}
+use Rattle.std.proofs.Math.Path.{refl}
+use Rattle.base.specs.Tail.{at_front}
 use Rattle.profile.specs.Profile.{verdict}
-use Rattle.lookup.specs.View.{view_of}
 use Rattle.session.specs.Session.{fresh_session}
 use Rattle.session.specs.declared.Session.{Session}
-use Rattle.definition.specs.Step.{Kept, fresh_kept, seen, step}
-use Rattle.account.specs.Account.{Offer, Holds, pasts, final, account, blank}
-use Rattle.account.proofs.Theorem.{demand_3_of}
-use Rattle.bridge.proofs.ShapedLaws.{fresh-seen, fresh-shaped}
-use Rattle.demands.specs.Running.{Step, Runs, offer_of}
-use Rattle.demands.specs.Shown.{exchange_of, offer_in}
-use Rattle.demands.proofs.Exchanges.{GivesAll, ends_so}
+use Rattle.definition.specs.Step.{Ended, done, refused, waiting}
+use Rattle.definition.specs.Whole.{whole}
+use Rattle.bounds.specs.Room.{FewOf}
+use Rattle.delivery.specs.Delivery.{is_done, messages_after, calls_after}
+use Rattle.bridge.specs.BackLaws.{BackOf, leaves_back}
+use Rattle.host.specs.Report.{Reports}
+use Rattle.demands.specs.Running.{Step, Does, Runs}
+use Rattle.demands.specs.Shown.{Exchange, exchange_of, HoldsOf}
+use Rattle.demands.specs.Hosted.{Entry, Hosts, exchange_by}
+use Rattle.demands.specs.Demands.{Demand1, Demand2, Read}
+use Rattle.demands.proofs.Exchanges.{Gives, defined}
+use Rattle.demands.proofs.Seen.{demand_3_seen}
+use Rattle.demands.proofs.Hosted.{demand_3_hosted, report_gives}
 
-pub run_gives : (p : List ℕ) (s : Session) (xs : List Step) (z : Session) → Runs p s xs z → GivesAll p s (map exchange_of xs) z
-unfolding Runs GivesAll
-run_gives p s [] z q = q
-run_gives p s (x ∷ xs) z (d, q) = ((d.outcome, d.leaves), run_gives p x.result.session xs z q)
+-- ── one exchange that went as promised ──
 
-same_offers : (xs : List Step) → map offer_in (map exchange_of xs) ≡ map offer_of xs
-same_offers [] = refl
-same_offers (x ∷ xs) = ap (λ (l : List Offer). offer_of x ∷ l) (same_offers xs)
+at_end : (e : Ended) (s : Session) (x : Exchange) → FewOf e → x.messages_after ≡ messages_after e x.messages → x.calls_after ≡ calls_after e x.calls →
+    (is_done e ≡ false → x.session ≡ s) → Demand1 e s x
+unfolding at_front
+at_end (done ms cs used saved) s x few m c same = (few.0, few.1, record { messages = m; calls = c })
+at_end (refused why) s x few m c same = record { session = same refl; messages = m; calls = c }
+at_end (waiting k) s x few m c same = record { session = same refl; messages = m; calls = c }
 
-pub demand_3_running : (p : List ℕ) → verdict p ≡ 0 → (xs : List Step) (z : Session) → Runs p fresh_session xs z →
-    Holds (view_of p) (pasts step (view_of p) fresh_kept fresh_kept (map offer_of xs)) (seen p z) (account (view_of p) 0 (pasts step (view_of p) fresh_kept fresh_kept (map offer_of xs)) blank)
-demand_3_running p ok xs z q =
-    let end : final step (view_of p) fresh_kept (map offer_of xs) ≡ seen p z =
-    ap (λ (k : Kept). final step (view_of p) k (map offer_of xs)) (sym (fresh-seen p))
-    ∙ ap (final step (view_of p) (seen p fresh_session)) (sym (same_offers xs))
-    ∙ ends_so p ok fresh_session (fresh-shaped p ok) (map exchange_of xs) z (run_gives p fresh_session xs z q) in
-    subst
-    (λ (k : Kept). Holds (view_of p) (pasts step (view_of p) fresh_kept fresh_kept (map offer_of xs)) k (account (view_of p) 0 (pasts step (view_of p) fresh_kept fresh_kept (map offer_of xs)) blank))
-    end (demand_3_of p ok (map offer_of xs))
+read_back : (e : Ended) (x : Exchange) → BackOf e x.messages_after x.calls_after → Read e x
+read_back (done ms cs used saved) x h = h
+read_back (refused why) x h = tt
+read_back (waiting k) x h = tt
+
+module _ (p : List ℕ) (s : Session) (x : Exchange) (g : Gives p s x) where
+  buffers : Demand1 (defined p s x).ended s x
+  buffers = at_end (defined p s x).ended s x g.1.few g.1.messages g.1.calls g.1.still
+
+  as_defined : Demand2 (defined p s x) p x
+  as_defined =
+      record {
+        outcome = g.0;
+        read = read_back (defined p s x).ended x (leaves_back p s x.answers x.event (length x.messages) (length x.calls) x.messages x.calls x.session x.messages_after x.calls_after g.1);
+        state = g.1.session;
+      }
+
+-- ── of `bridge::step` ──
+
+module _ (p : List ℕ) (s : Session) (x : Step) (d : Does p s x) where
+  pub demand_1 : Demand1 (whole p s x.event x.answers (length x.messages) (length x.calls)).ended s (exchange_of x)
+  demand_1 = buffers p s (exchange_of x) (d.outcome, d.leaves)
+
+  pub demand_2 : Demand2 (whole p s x.event x.answers (length x.messages) (length x.calls)) p (exchange_of x)
+  demand_2 = as_defined p s (exchange_of x) (d.outcome, d.leaves)
+
+pub demand_3 : (p : List ℕ) → verdict p ≡ 0 → (xs : List Step) (z : Session) → Runs p fresh_session xs z → HoldsOf p (map exchange_of xs) z
+demand_3 = demand_3_seen
+
+-- ── of the exported entry ──
+
+module _ (p : List ℕ) (s : Session) (x : Entry)
+    (d : Reports (whole p s x.event x.answers (length x.messages) (length x.calls)) p s x.messages x.calls x.report x.session x.messages_after x.calls_after) where
+  pub entry_1 : Demand1 (whole p s x.event x.answers (length x.messages) (length x.calls)).ended s (exchange_by x)
+  entry_1 = buffers p s (exchange_by x) (report_gives p s x d)
+
+  pub entry_2 : Demand2 (whole p s x.event x.answers (length x.messages) (length x.calls)) p (exchange_by x)
+  entry_2 = as_defined p s (exchange_by x) (report_gives p s x d)
+
+pub entry_3 : (p : List ℕ) → verdict p ≡ 0 → (xs : List Entry) (z : Session) → Hosts p fresh_session xs z → HoldsOf p (map exchange_by xs) z
+entry_3 = demand_3_hosted

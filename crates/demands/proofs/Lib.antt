@@ -1,4 +1,5 @@
 pub mod Exchanges
-pub mod Demands
+pub mod Running
 pub mod Seen
 pub mod Hosted
+pub mod Demands

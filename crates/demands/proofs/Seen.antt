@@ -15,7 +15,7 @@ use Rattle.bridge.proofs.ShapedLaws.{fresh-seen, fresh-shaped}
 use Rattle.demands.specs.Running.{Step, Runs}
 use Rattle.demands.specs.Shown.{Exchange, exchange_of, offer_in, shown, HoldsOf}
 use Rattle.demands.proofs.Exchanges.{GivesAll, ends_so, all_shown}
-use Rattle.demands.proofs.Demands.{run_gives}
+use Rattle.demands.proofs.Running.{run_gives}
 
 -- of every list of exchanges that went as promised
 pub account_holds : (p : List ℕ) → verdict p ≡ 0 → (xs : List Exchange) (z : Session) → GivesAll p fresh_session xs z → HoldsOf p xs z

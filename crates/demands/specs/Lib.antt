@@ -1,3 +1,4 @@
 pub mod Running
 pub mod Shown
 pub mod Hosted
+pub mod Demands

@@ -13,7 +13,7 @@ ghost use Rattle.std.specs.Fmt.{WritesInCalls};
 ghost use Rattle.printing.specs.Text.{decimal, bits, word, level, hex as hex_of};
 
 pub use lines::{Counts, ProfileRefused, Refused, Step, Waiting};
-pub use stdout::{Stdout, show};
+pub use stdout::Stdout;
 pub use text::{Printed, Sink, Text};
 pub use wire::{CallLine, Calls, MessageLine, Messages, kind_name};
 

@@ -3,7 +3,6 @@ ghost use Rattle.std.specs.Prelude.{◌≡◌, ◌+◌, ◌≤◌, ◌++◌, [],
 
 use crate::Sink;
 use std::fmt;
-use std::fmt::Write;
 
 const STDOUT_FILENO: i32 = 1;
 
@@ -64,16 +63,10 @@ impl Sink for Stdout {
 }
 
 impl fmt::Write for Stdout {
+    ghost write_str_gives = { λ old piece new. old.used + length piece ≤ 4096 → take new.used new.bytes ≡ take old.used old.bytes ++ piece };
+
     fn write_str(&mut self, s: &str) -> fmt::Result {
         self.take(s.as_bytes());
         Ok(())
     }
-}
-
-// Writes a text of the programs that only test to standard output.
-pub fn show<D: fmt::Display + Drop>(text: D) {
-    let mut out = Stdout::new();
-    // The writer takes all, so that a text ends early only where its own `fmt` gives up.
-    out.write(text).unwrap_or(());
-    out.flush();
 }

@@ -11,9 +11,19 @@ mod uses;
 
 ghost use Rattle.std.specs.Prelude.{◌≤◌};
 
+use printing::Stdout;
 use session::Session;
+use std::fmt;
+use std::fmt::Write;
 
 const STDIN_FILENO: i32 = 0;
+
+// Writes a text to standard output, which takes all of it: a text ends early only where its own `fmt` gives up.
+fn show<D: fmt::Display + Drop>(text: D) {
+    let mut out = Stdout::new();
+    out.write(text).unwrap_or(());
+    out.flush();
+}
 
 // ── input ──
 

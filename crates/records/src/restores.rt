@@ -48,10 +48,10 @@ fn restore(session: &mut Session, profile: &[u8], saved: &[u8]) -> Result<(), Re
     Ok(())
 }
 
-pub fn say_restore(session: &mut Session, profile: &[u8], saved: &[u8]) {
+pub(crate) fn say_restore(session: &mut Session, profile: &[u8], saved: &[u8]) {
     let why = restore(session, profile, saved).map_or_else(Refusal::number, |()| 0);
     let bank = session.bank;
     let positions = Positions(session.lamps);
     let kept = Saved { session, profile };
-    printing::show(format_args!("restore {why} bank {bank}{positions}{kept}\n"));
+    crate::show(format_args!("restore {why} bank {bank}{positions}{kept}\n"));
 }

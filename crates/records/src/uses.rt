@@ -52,13 +52,13 @@ fn say_use(kind: Kind, answers: &[u8]) {
     let got = got_by(kind, &mut io);
     let name = printing::kind_name(kind.number());
     let used = Used { io, got };
-    printing::show(format_args!("{name}{used}\n"));
+    crate::show(format_args!("{name}{used}\n"));
 }
 
 // The use of a call's kind, if the number is one's.
-pub fn say(number: u8, answers: &[u8]) {
+pub(crate) fn say(number: u8, answers: &[u8]) {
     match Kind::try_from(number) {
         Ok(kind) => say_use(kind, answers),
-        Err(_) => printing::show("no call\n"),
+        Err(_) => crate::show("no call\n"),
     }
 }

@@ -14,9 +14,18 @@ mod view;
 ghost use Rattle.std.specs.Prelude.{◌≡◌, length};
 
 use play::Play;
-use printing::{Printed, ProfileRefused};
+use printing::{Printed, ProfileRefused, Stdout};
 use recording::{Step, number, part};
+use std::fmt;
+use std::fmt::Write;
 use std::rt::Env;
+
+// Writes a text to standard output, which takes all of it: a text ends early only where its own `fmt` gives up.
+fn show<D: fmt::Display + Drop>(text: D) {
+    let mut out = Stdout::new();
+    out.write(text).unwrap_or(());
+    out.flush();
+}
 
 // Reads the `count` steps of a refused profile, which are not run.
 fn pass_steps(count: usize) -> Option<()> {
@@ -49,11 +58,11 @@ fn one_case(dump: bool) -> Option<()> {
     let id = number()?;
     let profile = part(&mut room)?;
     let steps = number()?;
-    printing::show(format_args!("case {id}\n"));
+    show(format_args!("case {id}\n"));
     match profile::examine(profile) {
         Ok(()) => run_steps(Play::fresh(dump, profile), steps),
         Err(cause) => {
-            printing::show(Printed(ProfileRefused(cause.number())));
+            show(Printed(ProfileRefused(cause.number())));
             pass_steps(steps)
         }
     }

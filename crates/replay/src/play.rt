@@ -20,7 +20,7 @@ pub struct Play<'a> {
 }
 
 impl<'a> Play<'a> {
-    pub fn fresh(dump: bool, profile: &'a [u8]) -> Play<'a>
+    pub(crate) fn fresh(dump: bool, profile: &'a [u8]) -> Play<'a>
         requires { verdict profile.now ≡ 0 }
     {
         Play {
@@ -62,7 +62,7 @@ impl<'a> Play<'a> {
         let mut bytes = [0u8; 136];
         let count = self.save(&mut bytes);
         let saved = Printed(Hex(&bytes[..8 * count]));
-        printing::show(format_args!("saved {saved}\n"));
+        crate::show(format_args!("saved {saved}\n"));
     }
 
     #[tactic(auto, using(crate::proofs::Laws::restored_well))]
@@ -70,12 +70,12 @@ impl<'a> Play<'a> {
         match state::restore(self.session, self.profile, saved) {
             Ok(session) => {
                 self.session = session;
-                printing::show(format_args!("restore {n} done\n"));
+                crate::show(format_args!("restore {n} done\n"));
             }
             Err(cause) => {
                 let step = printing::Step { what: "restore", n };
                 let why = cause.number();
-                printing::show(Printed(Refused { step, why }));
+                crate::show(Printed(Refused { step, why }));
             }
         }
     }
@@ -87,15 +87,15 @@ impl<'a> Play<'a> {
             session: &self.session,
         };
         if self.dump {
-            printing::show(view);
+            crate::show(view);
         } else {
             let hash = Printed(view.hash());
-            printing::show(format_args!("session{hash}\n"));
+            crate::show(format_args!("session{hash}\n"));
         }
     }
 
     // Reads and runs step n, if the recording has all of it.
-    pub fn step(&mut self, n: usize) -> Option<()> {
+    pub(crate) fn step(&mut self, n: usize) -> Option<()> {
         let mut event = io::buffer();
         let mut answers = io::large_buffer();
         let step = Step::read(&mut event, &mut answers)?;

@@ -7,14 +7,14 @@ fn byte() -> Option<u8> {
     (n == 1).then_some(b[0])
 }
 
-pub fn number() -> Option<usize> {
+pub(crate) fn number() -> Option<usize> {
     let mut b = [0u8; 4];
     let n = io::read_full(STDIN_FILENO, &mut b);
     (n == 4).then_some(u32::from_le_bytes(b) as usize)
 }
 
 // A length and as many bytes, where there is room for them.
-pub fn part(room: &mut [u8]) -> Option<&[u8]> {
+pub(crate) fn part(room: &mut [u8]) -> Option<&[u8]> {
     let asked = number()?;
     let bytes = room.get_mut(..asked)?;
     if io::read_full(STDIN_FILENO, bytes) < asked {
@@ -51,7 +51,10 @@ pub struct Step<'a> {
 
 impl<'a> Step<'a> {
     // The next step, if the recording has all of it.
-    pub fn read(event: &'a mut [u8; 4096], answers: &'a mut [u8; 65536]) -> Option<Step<'a>> {
+    pub(crate) fn read(
+        event: &'a mut [u8; 4096],
+        answers: &'a mut [u8; 65536],
+    ) -> Option<Step<'a>> {
         let kind = Kind::from(byte()?);
         let event = part(event)?;
         let answers = part(answers)?;

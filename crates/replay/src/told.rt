@@ -7,7 +7,7 @@ use delivery::Outcome;
 use printing::{Calls, Counts, Messages, Printed, Refused, Step, Waiting};
 
 // What became of event n, with the messages and the calls of a done one. There are at most 102 messages and 337 calls.
-pub fn show(n: usize, outcome: Outcome, messages: &[u8], calls: &[u8])
+pub(crate) fn show(n: usize, outcome: Outcome, messages: &[u8], calls: &[u8])
     requires few { Few (told outcome) }
     requires messages_in_bounds { 306 ≤ length messages.now }
     requires calls_in_bounds { 5392 ≤ length calls.now }
@@ -28,12 +28,12 @@ pub fn show(n: usize, outcome: Outcome, messages: &[u8], calls: &[u8])
             let saved = u8::from(saved);
             let sent = Printed(Messages(&messages[..3 * sent]));
             let asked = Printed(Calls(&calls[..16 * asked]));
-            printing::show(format_args!("{step}{counts} used {used} saved {saved}\n{sent}{asked}"));
+            crate::show(format_args!("{step}{counts} used {used} saved {saved}\n{sent}{asked}"));
         }
         Outcome::Refused(cause) => {
             let why = cause.number();
-            printing::show(Printed(Refused { step, why }));
+            crate::show(Printed(Refused { step, why }));
         }
-        Outcome::Waiting(call) => printing::show(Printed(Waiting { n, call })),
+        Outcome::Waiting(call) => crate::show(Printed(Waiting { n, call })),
     }
 }

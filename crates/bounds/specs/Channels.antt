@@ -1,4 +1,4 @@
--- An event that was read from bytes has a fader's channel of 0 to 15 only, "the low four" bits of the status, and turns of -191 to 63.
+-- An event that was read from bytes has a fader's channel of 0 to 15 only, the low four bits of the status, and turns of -191 to 63.
 use Rattle.std.specs.Prelude.{ℕ, zero, suc, ◌/◌, ◌-◌, ◌≤◌, ◌<◌, ◌≡◌, refl, Bool, true, false, ◌&&◌, List, [], ◌∷◌, eqb, leb, ltb, length, get_or, take, drop, pos, neg_ℤ, None, Option, Some}
 use Rattle.std.proofs.Common.{subst, arith, le-leb, ltb-true}
 use Rattle.base.specs.Choice.{pick}

@@ -31,7 +31,7 @@ use Rattle.hands.specs.Verdicts.{left_by}
 
 -- ── the promise ──
 
--- "its messages (at most 102) and device calls (at most 337)", of an outcome's counts; `FewOf` says it of the event's own lists
+-- at most 102 messages and 337 calls, by an outcome's counts; `FewOf` says it of the event's own lists
 abbrev pub Few : Told → Type 0
 Few (Done ms cs used saved) = (ms ≤ 102) × (cs ≤ 337)
 Few (Refused why) = Unit {0}
@@ -44,7 +44,7 @@ used_in (Refused why) = 0
 used_in (Waiting c) = 0
 
 -- d is the definition's event, s the session and ms, cs the lent buffers before it; s₁, ms₁ and cs₁ are they after it.
--- "after a numbered refusal or a wait for an answer they and the session are untouched"
+-- After a numbered refusal or a wait for an answer, buffers and session are untouched
 pub record Leaves (d : Stepped) (p : List ℕ) (s : Session) (ms cs : List ℕ) (s₁ : Session) (ms₁ cs₁ : List ℕ) : Type 0 where
   pub session : seen p s₁ ≡ d.kept
   pub still : is_done d.ended ≡ false → s₁ ≡ s
@@ -65,7 +65,7 @@ ran r s = record { outcome = r.outcome; session = s; changed = r.changed }
 
 -- ── steps on the way ──
 
--- the lowest number from 1 to 9 that declines the event, or 0; "Number 7" is of the saved records alone
+-- the lowest number from 1 to 9 that declines the event, or 0; number 7 is of the saved records alone
 abbrev pub declined_of : List ℕ → Session → ℕ → ℕ → ℕ
 declined_of p s messages calls =
     pick (eqb (verdict p) 0) (pick (well_shaped p s) (pick (ltb messages 306 || ltb calls 5392) 9 0) 8) (verdict p)

@@ -87,7 +87,7 @@ abbrev pub refusal_to : Option Destination → ℤ → List Turn → ℕ
 refusal_to (Some e) delta l = declined_by (find (is_dest e) l) delta l
 refusal_to None delta l = 0
 
--- "Each turn .. declined" by 12 or 13, 0 if it is not
+-- the number that declines a turn, 12 or 13; 0 if none does
 unfoldable pub turn_refusal : Rig → ℕ → ℤ → List Turn → ℕ
 turn_refusal r ch delta l = refusal_to (encoder_dest r (ch + 1)) delta l
 

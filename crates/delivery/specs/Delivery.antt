@@ -40,7 +40,7 @@ is_done (done ms cs used saved) = true
 is_done (refused why) = false
 is_done (waiting c) = false
 
--- the lent buffers after an event that ended so, of what they held, "from the start and old bytes behind": three bytes for a message, sixteen for a call
+-- the lent buffers after an event that ended so, of what they held: its own from the start, old bytes behind; three bytes for a message, sixteen for a call
 abbrev pub messages_after : Ended → List ℕ → List ℕ
 messages_after (done ms cs used saved) old = at_front (joined ms) old
 messages_after (refused why) old = old

@@ -1,4 +1,4 @@
--- The kinds of call and their numbers: "kind 0 open, 1 read, 2 write, 3 toggle, 4 command, 5 playing, 6 scenes, 7 current, 8 load, 9 live". Definitions only.
+-- The kinds of call and their numbers: "0 open, 1 read, 2 write, 3 toggle, 4 command .., 5 playing, 6 scenes, 7 current scene, 8 load .., 9 live faders". Definitions only.
 use Rattle.std.specs.Prelude.{ℕ, ◌≡◌, ◌≤◌, Result, Ok, Err}
 use Rattle.drivers.specs.declared.kind.Kind.{Kind}
 use Rattle.drivers.specs.declared.kind.Kind.TheVariants.{Open, Read, Write, Toggle, Command, Playing, Scenes, Current, Load, Live}

@@ -16,7 +16,7 @@ use Rattle.lookup.specs.Gather.{gather}
 
 -- ── names ──
 
--- "Absent is 65535"
+-- "65535 is absent"
 abbrev pub or_absent : Option ℕ → ℕ
 or_absent None = 65535
 or_absent (Some n) = n

@@ -1,10 +1,14 @@
 -- Texts that were put one behind the other are the text that they make. Assumes nothing.
-use Rattle.std.specs.Prelude.{ℕ, ◌≡◌, List, ◌++◌}
+use Rattle.std.specs.Prelude.{ℕ, ◌≡◌, List, [], ◌++◌}
 use Rattle.std.specs.Fmt.{WritesInCalls}
 use Rattle.std.proofs.Common.{subst}
-use Rattle.std.proofs.Output.{writes_in_calls_append, writes_in_calls_single}
+use Rattle.std.proofs.Output.{writes_in_calls_append, writes_in_calls_nil, writes_in_calls_single}
 
 module _ {W : Type 0} {took : W → List ℕ → W → Type 0} where
+  -- nothing
+  pub put_none : {a : W} → WritesInCalls took a [] a
+  put_none {a = a} = writes_in_calls_nil took a
+
   -- a piece that was taken
   pub put_one : {a b : W} {x : List ℕ} → took a x b → WritesInCalls took a x b
   put_one t = writes_in_calls_single took _ _ _ t

@@ -2,17 +2,17 @@
 
 // The program of document 01: profile.bin, events.bin and answers.bin, the first 65,536 bytes of each, and what becomes of each event.
 //
-// What is written of an event is proved to be the definition's text of it (`specs/Said`), and so is what is kept and used; that the system writes what it is handed
-// is not.
+// What is handed over is proved to be the definition's text of what was read (`specs/Said`, `program_text`). That the system reads and writes so is not.
 mod told;
 
-ghost use Rattle.std.specs.Prelude.{◌*◌, ◌≤◌, ◌≡◌, cond, length, Some, None, IfSome};
+ghost use Rattle.std.specs.Prelude.{◌*◌, ◌≤◌, ◌≡◌, true, cond, length, Some, None, IfSome};
 ghost use Rattle.std.specs.Fmt.{WritesInCalls};
-ghost use Rattle.definition.specs.Step.{seen};
-ghost use Rattle.definition.specs.Whole.{whole};
-ghost use Rattle.delivery.specs.Delivery.{told as told_by, told_done, outcome_of, is_done};
+ghost use Rattle.definition.specs.Shape.{well_shaped};
+ghost use Rattle.definition.specs.Step.{seen, fresh_kept};
+ghost use Rattle.delivery.specs.Delivery.{told as told_by, told_done};
 ghost use Rattle.bridge.specs.Bridge.{used_in};
-ghost use Rattle.run.specs.Said.{event_text};
+ghost use Rattle.run.specs.Said.{event_text, became, goes_on, records, events_text, program_text};
+ghost use Rattle.profile.specs.Profile.{verdict};
 
 use delivery::Outcome;
 use printing::{ProfileRefused, Sink, Stdout, Text};
@@ -56,9 +56,12 @@ fn one<S: Sink>(
     event: &[u8],
     answers: &[u8],
 ) -> Next
-    ensures out_after { WritesInCalls S.takes out.old (event_text n (whole profile.now session event.now answers.now 306 5392).ended) out.new }
-    ensures session_value { seen profile.now result.session ≡ (whole profile.now session event.now answers.now 306 5392).kept }
-    ensures used_value { result.used ≡ cond (is_done (whole profile.now session event.now answers.now 306 5392).ended) (Some (used_in (outcome_of (whole profile.now session event.now answers.now 306 5392).ended))) None }
+    requires verdict_value { verdict profile.now ≡ 0 }
+    requires shaped { well_shaped profile.now session ≡ true }
+    ensures out_after { WritesInCalls S.takes out.old (event_text n (became profile.now (seen profile.now session) event.now answers.now).ended) out.new }
+    ensures session_value { seen profile.now result.session ≡ (became profile.now (seen profile.now session) event.now answers.now).kept }
+    ensures still_shaped { well_shaped profile.now result.session ≡ true }
+    ensures used_value { result.used ≡ goes_on (became profile.now (seen profile.now session) event.now answers.now).ended }
     ensures used_in_bounds { IfSome result.used (λ used. 16 * used ≤ length answers.now) }
 {
     let mut messages = [0u8; 306];
@@ -79,7 +82,10 @@ fn one<S: Sink>(
 }
 
 // Runs the events in turn, each on the answers that those before it left. The last event may be incomplete.
-fn all<S: Sink>(out: &mut S, profile: &[u8], events: &[u8], answers: &[u8]) {
+fn all<S: Sink>(out: &mut S, profile: &[u8], events: &[u8], answers: &[u8])
+    requires verdict_value { verdict profile.now ≡ 0 }
+    ensures { WritesInCalls S.takes out.old (events_text profile.now fresh_kept 0 (records events.now) answers.now) out.new }
+{
     let mut session = session::fresh();
     let mut left = answers;
     for (n, event) in events.chunks(16).enumerate() {
@@ -92,6 +98,16 @@ fn all<S: Sink>(out: &mut S, profile: &[u8], events: &[u8], answers: &[u8]) {
     }
 }
 
+// The program, of what was read of each file.
+fn whole<S: Sink>(out: &mut S, profile: &[u8], events: &[u8], answers: &[u8])
+    ensures { WritesInCalls S.takes out.old (program_text profile.now events.now answers.now) out.new }
+{
+    match profile::examine(profile) {
+        Ok(()) => all(out, profile, events, answers),
+        Err(cause) => ProfileRefused(cause.number()).put(out),
+    }
+}
+
 fn main(rt: HostRuntime) {
     let mut profile_room = io::large_buffer();
     let mut events_room = io::large_buffer();
@@ -100,9 +116,6 @@ fn main(rt: HostRuntime) {
     let events = load(&rt, "events.bin", &mut events_room);
     let answers = load(&rt, "answers.bin", &mut answers_room);
     let mut out = Stdout::new();
-    match profile::examine(profile) {
-        Ok(()) => all(&mut out, profile, events, answers),
-        Err(cause) => ProfileRefused(cause.number()).put(&mut out),
-    }
+    whole(&mut out, profile, events, answers);
     out.flush();
 }

@@ -1,4 +1,4 @@
--- What `run` writes of an event, by document 01's paragraph on it. Definitions only.
+-- What `run` writes, by document 01's paragraph on it. Definitions only.
 use Rattle.std.specs.Prelude.{ℕ, zero, suc, ◌*◌, List, [], ◌∷◌, ◌++◌, cond, eqb, length, take, drop, Option, Some, None}
 use Rattle.profile.specs.Profile.{verdict}
 use Rattle.drivers.specs.Shown.{calls_in, messages_in}

@@ -3,6 +3,7 @@
 // The program of document 01: profile.bin, events.bin and answers.bin, the first 65,536 bytes of each, and what becomes of each event.
 //
 // What is handed over is proved to be the definition's text of what was read (`specs/Said`, `program_text`). That the system reads and writes so is not.
+mod files;
 mod told;
 
 ghost use Rattle.std.specs.Prelude.{◌*◌, ◌≤◌, ◌≡◌, true, cond, length, Some, None, IfSome};
@@ -17,8 +18,6 @@ ghost use Rattle.profile.specs.Profile.{verdict};
 use delivery::Outcome;
 use printing::{ProfileRefused, Sink, Stdout, Text};
 use session::Session;
-use std::fs::File;
-use std::os::fd::AsRawFd;
 use told::Told;
 
 // What one event came to: the session behind it, and how many answers it used where the next event may follow.
@@ -26,15 +25,6 @@ use told::Told;
 struct Next {
     session: Session,
     used: Option<usize>,
-}
-
-// The start of a file, as much as there is room for. A missing file counts as empty.
-fn load<'a>(rt: &HostRuntime, path: &str, room: &'a mut [u8]) -> &'a [u8] {
-    let n = match File::open(rt, path) {
-        Ok(file) => io::read_full(file.as_raw_fd(), room),
-        Err(_) => 0,
-    };
-    &room[..n]
 }
 
 // How many answers a done event used. A refused or a waiting one is the end.
@@ -112,9 +102,9 @@ fn main(rt: HostRuntime) {
     let mut profile_room = io::large_buffer();
     let mut events_room = io::large_buffer();
     let mut answers_room = io::large_buffer();
-    let profile = load(&rt, "profile.bin", &mut profile_room);
-    let events = load(&rt, "events.bin", &mut events_room);
-    let answers = load(&rt, "answers.bin", &mut answers_room);
+    let profile = files::load(&rt, "profile.bin", 32, &mut profile_room);
+    let events = files::load(&rt, "events.bin", 16, &mut events_room);
+    let answers = files::load(&rt, "answers.bin", 16, &mut answers_room);
     let mut out = Stdout::new();
     whole(&mut out, profile, events, answers);
     out.flush();

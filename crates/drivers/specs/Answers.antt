@@ -1,9 +1,9 @@
 -- Answers, and which fit which call: "Answer, 16 bytes" of document 01. A part is the answers from the first unread record on. Definitions only.
-use Rattle.std.specs.Prelude.{ℕ, zero, suc, ◌+◌, ◌*◌, ◌/◌, List, [], ◌∷◌, ◌++◌, Bool, true, false, ◌&&◌, ◌||◌, not, ltb, eqb, length, get_or}
+use Rattle.std.specs.Prelude.{ℕ, zero, suc, ◌+◌, ◌*◌, ◌/◌, ◌≡◌, List, [], ◌∷◌, ◌++◌, Bool, true, false, ◌&&◌, ◌||◌, not, ltb, eqb, length, get_or}
 use Rattle.std.specs.Float.{binary64}
 use Rattle.std.specs.Float.Ieee.{of_bits}
 use Rattle.base.specs.Choice.{pick}
-use Rattle.base.specs.Range.{all}
+use Rattle.base.specs.Range.{all, bit}
 use Rattle.base.specs.Words.{le16, le32, le64}
 use Rattle.drivers.specs.declared.Answer.{Answer}
 use Rattle.drivers.specs.declared.Answer.TheVariants as answer
@@ -97,6 +97,32 @@ answer_to kind k part =
 -- the answer that stands first in a part that is not empty, to a call of the kind; "a record below 16 bytes .. is cut short"
 unfoldable pub answer_of : List ℕ → ℕ → Answer
 answer_of part kind = pick (ltb (length part) 16) answer.Unfit (pick (eqb (get_or part 0 0) 0) answer.Refused (answer_to kind (get_or part 0 0) part))
+
+-- ── each answer's number, and the values that its record holds ──
+
+-- "0 refused, 1 done, 2 level, 3 nothing, 4 yes/no, 5 index, 6 list". `Unfit` is none of the document's answers: whatever its record's number, the bridge
+-- declines with 14, and 14 stands here, which is the number of no answer.
+abbrev pub number_of : Answer → ℕ
+number_of answer.Refused = 0
+number_of answer.Done = 1
+number_of (answer.Level x) = 2
+number_of answer.Nothing = 3
+number_of (answer.YesNo b) = 4
+number_of (answer.Index i) = 5
+number_of answer.List = 6
+number_of answer.Unfit = 14
+
+-- "level (at 8)", "yes/no (byte 1)", of which 0 is no and 1 is yes, "index (u32 at 4)". The other cases hold no value: a list's count at 2 and its items stay
+-- in the part, where `count_at` and `items_of` read them.
+abbrev pub Carries : List ℕ → Answer → Type 0
+Carries part answer.Refused = Unit {0}
+Carries part answer.Done = Unit {0}
+Carries part (answer.Level x) = x ≡ of_bits binary64 (le64 part 8)
+Carries part answer.Nothing = Unit {0}
+Carries part (answer.YesNo b) = bit b ≡ get_or part 1 0
+Carries part (answer.Index i) = i ≡ le32 part 4
+Carries part answer.List = Unit {0}
+Carries part answer.Unfit = Unit {0}
 
 -- ── which case an answer is ──
 

@@ -1,7 +1,7 @@
 // The answer that stands first in a part of the answers, and whether it fits the call.
-ghost use Rattle.std.specs.Prelude.{◌≡◌, cond, ◌+◌, ◌*◌, ◌/◌, ◌<◌, ◌≤◌, length};
+ghost use Rattle.std.specs.Prelude.{◌≡◌, cond, false, ◌+◌, ◌*◌, ◌/◌, ◌<◌, ◌≤◌, length, get_or};
 ghost use Rattle.base.specs.Range.{all};
-ghost use Rattle.drivers.specs.Answers.{item_fits, live_fits, scene_list, live_list, yes_no, to_read, to_playing, to_scenes, to_current, to_live, to_other, answer_of, is_unfit, is_done, is_yes_no, is_list};
+ghost use Rattle.drivers.specs.Answers.{item_fits, live_fits, scene_list, live_list, yes_no, to_read, to_playing, to_scenes, to_current, to_live, to_other, answer_of, is_unfit, is_done, is_yes_no, is_list, number_of, Carries};
 
 use crate::{Answer, Kind};
 
@@ -152,7 +152,9 @@ fn to_other(k: u8) -> Answer
 // The answer that stands first in the part, to a call of the kind: any byte, as the definition has it, since a narrower type would ask more of callers.
 #[tactic(auto, unfolding(crate::specs::Answers::answer_of))]
 pub fn first(part: &[u8], kind: u8) -> Answer
-    ensures { result ≡ answer_of part.now kind }
+    ensures value { result ≡ answer_of part.now kind }
+    ensures number { is_unfit result ≡ false → number_of result ≡ get_or part.now 0 0 }
+    ensures values { Carries part.now result }
 {
     if part.len() < 16 {
         return Answer::Unfit;

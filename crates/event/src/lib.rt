@@ -1,8 +1,8 @@
 #![tactic(auto)]
 
 // An event of the host with its time: the record of sixteen bytes, read.
-ghost use Rattle.std.specs.Prelude.{◌≡◌, ◌≤◌, true, length, get_or};
-ghost use Rattle.event.specs.Event.{event_ok, input_of, read_of};
+ghost use Rattle.std.specs.Prelude.{◌≡◌, ◌≤◌, true, length, get_or, IfSome};
+ghost use Rattle.event.specs.Event.{event_ok, input_of, read_of, number_of, Carries};
 
 use protocol::Event;
 
@@ -46,9 +46,11 @@ fn said(event: &[u8]) -> Input
     }
 }
 
-#[tactic(auto, unfolding(crate::specs::Event::read_of))]
+#[tactic(auto, using(crate::proofs::Numbers::numbered, crate::proofs::Numbers::carried), unfolding(crate::specs::Event::read_of))]
 pub fn read_event(event: &[u8]) -> Option<Timed>
-    ensures { result ≡ read_of event.now }
+    ensures value { result ≡ read_of event.now }
+    ensures number { IfSome result (λ e. number_of e.what ≡ get_or event.now 0 0) }
+    ensures values { IfSome result (λ e. Carries event.now e.what) }
 {
     if !event_ok(event) {
         return None;

@@ -60,14 +60,14 @@ on_event-requires c =
     let passed : declined_of c.args.profile.now c.args.session.now (length c.args.messages.now) (length c.args.calls.now) ≡ 0 =
     rw (← v, ← c.shaped.ensures, c.if-not-shaped.false, c.if-messages-calls.false) in
     let w = passes c.args.profile.now c.args.session.now c.args.event.now c.args.answers.now _ _ passed in
-    record { profile_value = w.accepted; session_value = w.shaped; in_bounds = w.messages; in_bounds_2 = w.calls; low_input = read_low c.args.event.now (λ j. omega (arith, c.type_inv.event j)) _ (sym c.read_event.ensures ∙ c.in-Some.is) }
+    record { profile_value = w.accepted; session_value = w.shaped; in_bounds = w.messages; in_bounds_2 = w.calls; low_input = read_low c.args.event.now (λ j. omega (arith, c.type_inv.event j)) _ (sym c.read_event.ensures.value ∙ c.in-Some.is) }
 
 pub returns-in-Some : goal.returns-in-Some
 returns-in-Some c =
     let v : 0 ≡ verdict c.args.profile.now = ap verdict_of (sym c.in_default.is) ∙ c.examine.ensures in
     let passed : declined_of c.args.profile.now c.args.session.now (length c.args.messages.now) (length c.args.calls.now) ≡ 0 =
     rw (← v, ← c.shaped.ensures, c.if-not-shaped.false, c.if-messages-calls.false) in
-    passes_on c.args.profile.now c.args.session.now c.args.event.now c.args.answers.now _ _ passed c.read_event.result _ c.read_event.ensures
+    passes_on c.args.profile.now c.args.session.now c.args.event.now c.args.answers.now _ _ passed c.read_event.result _ c.read_event.ensures.value
     c.in-Some.is _ _ _ _ _ c.on_event.ensures
 
 pub returns-in-None : goal.returns-in-None
@@ -77,4 +77,4 @@ returns-in-None c =
     rw (← v, ← c.shaped.ensures, c.if-not-shaped.false, c.if-messages-calls.false) in
     rw c.refused-in-None.ensures
     (declines _ 10 _ _ _ _ _ refl
-    (unread c.args.profile.now c.args.session.now c.args.event.now c.args.answers.now _ _ passed c.read_event.result c.read_event.ensures c.in-None.is))
+    (unread c.args.profile.now c.args.session.now c.args.event.now c.args.answers.now _ _ passed c.read_event.result c.read_event.ensures.value c.in-None.is))

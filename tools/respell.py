@@ -40,7 +40,7 @@ LIBRARY = set(
 
 
 def files(ends):
-    for top in ("crates", "docs", "draft", "bench", "README.md"):
+    for top in ("crates", "docs", "bench", "README.md"):
         if os.path.isfile(top):
             yield top
         for folder, below, names in os.walk(top):

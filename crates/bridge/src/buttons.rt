@@ -245,8 +245,8 @@ pub fn added_by(here: &Current<'_>, lamps: &Lamps, hushed: &[u16], press: Option
     };
     let fader = channel_of(b) + 1;
     match b.kind() {
-        Kind::Mute => solos::adds::added_by_mute(here, hushed, fader),
-        Kind::Solo => solos::adds::added_by_solo(here, lamps, hushed, fader),
+        Kind::Mute => silencing::added_by_mute(here, hushed, fader),
+        Kind::Solo => silencing::added_by_solo(here, lamps, hushed, fader),
         _ => 0,
     }
 }

@@ -3,19 +3,19 @@ use Rattle.std.proofs.Common.{None, Option, Some, ℕ, zero, suc, ◌+◌, ◌-�
 use Rattle.std.proofs.lemmas.List.{length-map}
 use Rattle.base.specs.Choice.{pick}
 use Rattle.base.specs.Keyed.{change, no_twice}
-use Rattle.base.specs.KeyedLaws.{change_longer}
+use Rattle.base.proofs.KeyedLaws.{change_longer}
 use Rattle.lookup.specs.declared.Destination.{Destination}
 use Rattle.drivers.specs.Talk.{Talk, Got, got, next}
 use Rattle.session.specs.Session.{Hushed, targets_of, is_hushed, has_room, was_muted, note_muted, none_noted}
-use Rattle.session.specs.SessionLaws.{same_hushed}
+use Rattle.session.specs.WellLists.{same_hushed}
 use Rattle.session.specs.declared.Lamps.{Lamps}
 use Rattle.definition.specs.Rig.{Rig, destination}
 use Rattle.definition.specs.Levels.{kept_by, has_mute}
 use Rattle.definition.specs.Lamps.{muted_to, push_state}
 use Rattle.definition.specs.Muting.{Soloed, in_group, peer, off_to, solo_off, note_mutes, note_if, on_to, solo_on, turn_off, turn_on, is_same, add_target, adding, solo_adds, added_by_solo}
-use Rattle.definition.specs.SilencingLaws.{Within, Covered, grown, any_both, adding_covers, adding-more, solo_on_so, room_within, once_keys}
+use Rattle.definition.proofs.SilencingLaws.{Within, Covered, grown, any_both, adding_covers, adding-more, solo_on_so, room_within, once_keys}
 use Rattle.mutes.specs.Held.{room_for}
-use Rattle.solos.proofs.AddsLaws.{numbered, same_adds}
+use Rattle.solos.proofs.PeersLaws.{numbered, same_adds}
 use Rattle.solos.specs.Peers.{seen_peers, ArePeers, room_to}
 use Rattle.solos.specs.Turns.{turned_off, turned_on}
 

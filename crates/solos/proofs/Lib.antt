@@ -1,2 +1,2 @@
-pub mod AddsLaws
+pub mod PeersLaws
 pub mod Laws

@@ -1,9 +1,7 @@
 #![tactic(auto)]
 
 // Solo: only one fader's destination plays, within its own group. On gear with and without a mute of its own.
-mod added;
-pub mod adds;
-mod peers;
+pub mod peers;
 
 ghost use Rattle.std.specs.Prelude.{◌≡◌, true, ◌+◌, ◌≤◌, eqb, length};
 ghost use Rattle.base.specs.Keyed.{no_twice};
@@ -23,7 +21,7 @@ use rig::{Current, levels};
 use session::{Lamps, Silenced};
 
 // What is silenced without a mute is handed back; another plays already.
-#[tactic(auto, using(mutes::specs::HeldLaws::held_some, mutes::specs::HeldLaws::held_none))]
+#[tactic(auto, using(mutes::proofs::HeldLaws::held_some, mutes::proofs::HeldLaws::held_none))]
 fn hand_back_kept(io: &mut Io<'_>, dest: Destination, silenced: &mut Silenced)
     requires { silenced.old.count ≤ 256 }
     ensures line { got (seen_silenced silenced.new) (shown io.new) ≡ back_if (is_hushed (kept_by dest) (targets_of (seen_silenced silenced.old))) dest (seen_silenced silenced.old) (shown io.old) }

@@ -1,8 +1,8 @@
 use Rattle.std.proofs.Common.{◌≡◌, ◌∙◌, ◌<◌, sym, length, length-take-le, take, arith}
-use Rattle.base.specs.StdLaws.{list_any-any_of}
+use Rattle.base.proofs.StdLaws.{list_any-any_of}
 use Rattle.definition.specs.Muting.{is_same}
-use Rattle.solos.proofs.AddsLaws.{change_same, change_new}
-use Rattle.solos.proofs.added.Added.add.Goals as goal
+use Rattle.silencing.proofs.Laws.{change_same, change_new}
+use Rattle.silencing.proofs.added.Added.add.Goals as goal
 
 pub returns-then-not-contains-clause-added : goal.returns-then-not-contains-clause-added
 returns-then-not-contains-clause-added c =

@@ -1,11 +1,12 @@
 -- What counting the targets that a press adds rests on. Assumes nothing.
-use Rattle.std.proofs.Common.{None, Option, ℕ, zero, suc, ◌+◌, ◌-◌, ◌≤◌, ◌<◌, ◌≡◌, refl, sym, ap, ◌∙◌, Bool, true, false, true≢false, List, [], ◌∷◌, ◌++◌, add-one, arith, eqb, length, get_or, take, set}
+use Rattle.std.proofs.Common.{None, Option, ℕ, ◌+◌, ◌<◌, ◌≡◌, refl, sym, ap, ◌∙◌, Bool, true, false, true≢false, List, [], ◌∷◌, ◌++◌, add-one, eqb, length, get_or, take, set}
 use Rattle.std.proofs.Math.Seq.{take-suc-set}
 use Rattle.base.specs.Choice.{pick}
 use Rattle.base.specs.Keyed.{any_of, change}
 use Rattle.lookup.specs.declared.Destination.{Destination}
 use Rattle.definition.specs.Muting.{adding, solo_adds}
 use Rattle.solos.specs.Peers.{seen_peers}
+use Rattle.solos.proofs.PeersLaws.{numbered}
 
 -- ── one target ──
 
@@ -37,10 +38,6 @@ module _ {A : Type 0} (f : A → Bool) (y : A) where
 
 -- ── the peers of a fader ──
 
--- the peer at place n has number n + 1
-pub numbered : (p : List (Option Destination)) (n : ℕ) → seen_peers p (n + 1) ≡ get_or p n None
-numbered p n = let q : n + 1 - 1 ≡ n = omega arith in rw q
-
 module _ (p : List (Option Destination)) (fader : ℕ) (ts : List ℕ) where
   pub none_adds : solo_adds (seen_peers p) fader ts 0 ≡ []
   unfolding solo_adds
@@ -51,11 +48,3 @@ module _ (p : List (Option Destination)) (fader : ℕ) (ts : List ℕ) where
   more_adds n =
       ap (solo_adds (seen_peers p) fader ts) (add-one n)
       ∙ ap (λ x. adding (pick (eqb (n + 1) fader) None x) ts (solo_adds (seen_peers p) fader ts n)) (numbered p n)
-
--- what the faders 1 to n add depends on no other
-pub same_adds : (f g : ℕ → Option Destination) (fader : ℕ) (ts : List ℕ) (n : ℕ) → ((k : ℕ) → 1 ≤ k → k ≤ n → f k ≡ g k) →
-    solo_adds f fader ts n ≡ solo_adds g fader ts n
-unfolding solo_adds
-same_adds f g fader ts zero e = refl
-same_adds f g fader ts (suc n) e =
-    rw (e (n + 1) (omega arith) (omega arith), same_adds f g fader ts n (λ k a b. e k a (omega arith)))

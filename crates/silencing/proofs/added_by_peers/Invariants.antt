@@ -1,7 +1,7 @@
 use Rattle.std.proofs.Common.{◌≡◌, ◌≤◌, length}
 use Rattle.definition.specs.Muting.{solo_adds}
 use Rattle.solos.specs.Peers.{seen_peers}
-use Rattle.solos.proofs.adds.added_by_peers.Given as goal
+use Rattle.silencing.proofs.added_by_peers.Given as goal
 
 abbrev pub invariant-loop-n : goal.invariant-loop-n
 invariant-loop-n l = record {

@@ -1,14 +1,18 @@
+#![tactic(auto)]
+
 // Number 11: how many targets a press would silence beside those that are, each once.
+mod added;
+
 ghost use Rattle.std.specs.Prelude.{◌≡◌, ◌+◌, ◌≤◌, ◌<◌, length};
 ghost use Rattle.definition.specs.Muting.{adding, solo_adds, added_by_solo, added_by_mute};
 ghost use Rattle.rig.specs.Seen.{rig_in};
 ghost use Rattle.solos.specs.Peers.{seen_peers};
 
-use crate::added::Added;
-use crate::peers::{Peers, peers_of};
+use added::Added;
 use lookup::Destination;
 use rig::{Current, levels};
 use session::Lamps;
+use solos::peers::{Peers, peers_of};
 
 // A destination without a mute adds its target, unless that is silenced or added already.
 fn adding(added: &mut Added, to: Option<Destination>, hushed: &[u16])
@@ -36,7 +40,7 @@ pub fn added_by_mute(here: &Current<'_>, hushed: &[u16], fader: u8) -> usize
 }
 
 // The soloed fader itself adds nothing.
-#[tactic(auto, using(crate::proofs::AddsLaws::none_adds, crate::proofs::AddsLaws::more_adds))]
+#[tactic(auto, using(crate::proofs::Laws::none_adds, crate::proofs::Laws::more_adds))]
 fn added_by_peers(peers: &Peers, hushed: &[u16], fader: u8) -> usize
     ensures { result ≡ length (solo_adds (seen_peers peers.now) fader hushed.now 16) }
 {
@@ -49,7 +53,7 @@ fn added_by_peers(peers: &Peers, hushed: &[u16], fader: u8) -> usize
 }
 
 // How many a solo of the fader adds that turns on: a solo that turns off silences none.
-#[tactic(auto, unfolding(definition::specs::Muting::added_by_solo), using(crate::proofs::AddsLaws::same_adds))]
+#[tactic(auto, unfolding(definition::specs::Muting::added_by_solo), using(solos::proofs::PeersLaws::same_adds))]
 pub fn added_by_solo(here: &Current<'_>, lamps: &Lamps, hushed: &[u16], fader: u8) -> usize
     ensures { result ≡ length (added_by_solo (rig_in here.now) fader lamps.now hushed.now) }
 {

@@ -11,7 +11,7 @@ use lib.Ieee.{eq}
 use borrow.Author.Tests.{eqb-true, eqb-false, ne_eqb}
 use Rattle.base.specs.Choice.{pick}
 use Rattle.base.specs.Range.{every}
-use Rattle.base.specs.RangeLaws.{and_left, and_right}
+use Rattle.base.proofs.RangeLaws.{and_left, and_right}
 use Rattle.protocol.specs.declared.Event.TheVariants as event
 use Rattle.lookup.specs.Lookup.{same_dest}
 use Rattle.lookup.specs.View.{View}

@@ -13,7 +13,7 @@ use Rattle.drivers.specs.Talk.{Talk, Got, next, Reply, no_reply, ask, ask_at, as
 use Rattle.drivers.specs.declared.line.Stop.{Stop}
 use Rattle.drivers.specs.declared.line.Stop.TheVariants.{Going, Waits, Declined, Overrun}
 use Rattle.drivers.specs.Paired.{Asked, reply_to, behind, after, paired}
-use Rattle.drivers.specs.PairedLaws.{after-append, paired-append, waits_on, declined_on, overrun_on}
+use Rattle.drivers.proofs.PairedLaws.{after-append, paired-append, waits_on, declined_on, overrun_on}
 use Rattle.drivers.specs.declared.Call.{Call}
 use Rattle.drivers.specs.declared.Answer.{Answer}
 use Rattle.drivers.specs.declared.Answer.TheVariants as answer

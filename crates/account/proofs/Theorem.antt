@@ -9,7 +9,7 @@ use lib.Dec.{eqb}
 use lib.IntN.{ℤ, ◌+ℤ◌}
 use Rattle.protocol.specs.declared.Event.TheVariants as event
 use Rattle.profile.specs.Profile.{verdict}
-use Rattle.profile.specs.Accepted.{few_banks}
+use Rattle.profile.proofs.Accepted.{few_banks}
 use Rattle.lookup.specs.View.{View, view_of}
 use Rattle.lookup.specs.declared.Destination.{Destination}
 use Rattle.drivers.specs.Talk.{start, Got}

@@ -10,8 +10,8 @@ use lib.Ieee.{Float}
 use borrow.Author.Tests.{le-leb}
 use Rattle.base.specs.Choice.{pick}
 use Rattle.base.specs.Keyed.{all_of, beside}
-use Rattle.base.specs.KeyedLaws.{map-set, every-none}
-use Rattle.base.specs.Pigeon.{left_of_lem, right_of}
+use Rattle.base.proofs.KeyedLaws.{map-set, every-none}
+use Rattle.base.proofs.Pigeon.{left_of_lem, right_of}
 use Rattle.session.specs.Session.{is_encoder, seen_line, seen_turns, seen_strips, strips_or, strips_for, moved_to, mark_at, place_move}
 use Rattle.session.specs.declared.Session.{Session}
 use Rattle.session.specs.declared.Marks.{Marks}

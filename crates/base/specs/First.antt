@@ -1,4 +1,4 @@
--- Which number below n comes first, if one does. Assumes nothing.
+-- Which number below n comes first, if one does. Definitions only.
 use Rattle.std.specs.Prelude.{ℕ, zero, suc, Bool, cond, None, Option, Some}
 
 -- the first of two that is there

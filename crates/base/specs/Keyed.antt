@@ -1,5 +1,5 @@
 -- What the bridge does with a list that it looks into by a test. No capacity and no index: definitions are made of these, and code keeps such a list
--- as the first n of an array (KeyedLaws.antt). Definitions only.
+-- as the first n of an array (proofs/KeyedLaws). Definitions only.
 use Rattle.std.specs.Prelude.{Bool, true, false, List, [], ◌∷◌, ℕ, suc, None, Option, Some}
 use Rattle.base.specs.Choice.{pick}
 

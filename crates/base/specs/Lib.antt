@@ -1,15 +1,7 @@
-pub mod BesideLaws
 pub mod Choice
 pub mod Range
-pub mod RangeLaws
 pub mod First
-pub mod FirstLaws
-pub mod Tables
 pub mod Keyed
-pub mod KeyedLaws
-pub mod Pigeon
 pub mod Words
-pub mod WordsLaws
 pub mod Tail
 pub mod Same
-pub mod StdLaws

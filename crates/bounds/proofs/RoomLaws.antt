@@ -10,8 +10,8 @@ use Rattle.drivers.specs.declared.Call.{Call}
 use Rattle.event.specs.declared.Timed.{Timed}
 use Rattle.definition.specs.Step.{Kept, Left, Ended, done, finish, step_if, refusal, act, step}
 use Rattle.bounds.specs.Room.{Sound, Within, Room, FewOf}
-use Rattle.bounds.specs.Events.{act_takes}
-use Rattle.bounds.specs.RoomLaws.{shut-most, going_so, room_rules, messages_most, calls_most}
+use Rattle.bounds.proofs.Events.{act_takes}
+use Rattle.bounds.proofs.RoomTaken.{shut-most, going_so, room_rules, messages_most, calls_most}
 
 module _ (v : View) (k : Kept) (sound : Sound v) (within : Within k) where
   pub act_room : (e : Timed) (answers : List ℕ) → Room 0 0 (act e.what v k e.time (start answers k.opened)).talk

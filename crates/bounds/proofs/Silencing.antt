@@ -8,7 +8,7 @@ use Rattle.drivers.specs.Talk.{Talk}
 use Rattle.session.specs.Session.{targets_of}
 use Rattle.definition.specs.Buttons.{button, added_by}
 use Rattle.definition.specs.Step.{Kept, press_at}
-use Rattle.bounds.specs.Silencing.{press_silenced}
+use Rattle.bounds.proofs.SilencingFits.{press_silenced}
 
 pub silenced_so : (v : View) (k : Kept) (now : Float) (note : ℕ) (t : Talk) → no_twice eqb (targets_of k.silenced) ≡ true →
     length k.silenced + length (added_by note (press_at v k now)) ≤ 256 →

@@ -8,8 +8,8 @@ use Rattle.drivers.specs.declared.Call.{Call}
 use Rattle.event.specs.declared.Timed.{Timed}
 use Rattle.definition.specs.Step.{Kept, act, step, done}
 use Rattle.bounds.specs.Well.{Well}
-use Rattle.bounds.specs.Profiles.{accepted_sound}
-use Rattle.bounds.specs.WellRoom.{well_within}
+use Rattle.bounds.proofs.Profiles.{accepted_sound}
+use Rattle.bounds.proofs.WellWithin.{well_within}
 use Rattle.bounds.proofs.RoomLaws.{never_overrun, few_within}
 
 module _ (p : List ℕ) (yes : verdict p ≡ 0) where

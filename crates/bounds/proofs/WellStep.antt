@@ -15,7 +15,7 @@ use Rattle.drivers.specs.Talk.{Talk, Got, next, start}
 use Rattle.drivers.specs.declared.line.Stop.{Stop}
 use Rattle.drivers.specs.declared.line.Stop.TheVariants.{Going, Waits, Declined, Overrun}
 use Rattle.session.specs.Session.{Hushed, targets_of}
-use Rattle.session.specs.SessionLaws.{WellStrips}
+use Rattle.session.specs.WellLists.{WellStrips}
 use Rattle.session.specs.declared.Strip.{Strip}
 use Rattle.event.specs.declared.Input.{Input}
 use Rattle.event.specs.declared.Input.TheVariants as input
@@ -27,13 +27,13 @@ use Rattle.definition.specs.Buttons.{button}
 use Rattle.definition.specs.Step.{Kept, Left, left, rig_now, press_at, on_button, on_midi, unmarked_at, lives_after, site_after, tick_with, tick, act, overfull, finish, step_if, refusal, step}
 use Rattle.bounds.specs.Room.{LowEvent, LowInput}
 use Rattle.bounds.specs.Well.{Well}
-use Rattle.bounds.specs.Profiles.{accepted_sound}
+use Rattle.bounds.proofs.Profiles.{accepted_sound}
 use Rattle.bounds.proofs.RoomLaws.{act_room}
-use Rattle.bounds.specs.WellFlash.{Shaped, bank_gives, tick_gives}
-use Rattle.bounds.specs.WellPress.{Settled, button_fine}
-use Rattle.bounds.specs.WellLive.{WellLives, refresh_well, set_well}
-use Rattle.bounds.specs.WellDesk.{WellDesk, fader_well, encoder_well, unmarked_well, unmarked_at_well, drained_well}
-use Rattle.bounds.specs.WellRoom.{well_within}
+use Rattle.bounds.proofs.WellFlash.{Shaped, bank_gives, tick_gives}
+use Rattle.bounds.proofs.WellPress.{Settled, button_fine}
+use Rattle.bounds.proofs.WellLive.{WellLives, refresh_well, set_well}
+use Rattle.bounds.proofs.WellDesk.{WellDesk, fader_well, encoder_well, unmarked_well, unmarked_at_well, drained_well}
+use Rattle.bounds.proofs.WellWithin.{well_within}
 use Rattle.bounds.proofs.Silencing.{silenced_so}
 
 -- ── what an event leaves ──

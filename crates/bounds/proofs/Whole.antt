@@ -17,8 +17,8 @@ use Rattle.definition.specs.Whole.{whole, offered}
 use Rattle.bounds.specs.Well.{Well}
 use Rattle.bounds.proofs.WellRoom.{well_few}
 use Rattle.bounds.proofs.WellStep.{step_well}
-use Rattle.bounds.specs.Channels.{read_low}
-use Rattle.bounds.specs.Whole.{well_seen}
+use Rattle.bounds.proofs.Channels.{read_low}
+use Rattle.bounds.proofs.Offered.{well_seen}
 
 -- ── an event that is done ──
 

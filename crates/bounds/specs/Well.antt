@@ -5,7 +5,7 @@ use Rattle.profile.specs.Profile.{records, is_kind, bank_count}
 use Rattle.lookup.specs.Lookup.{dest_at}
 use Rattle.lookup.specs.declared.Destination.{Destination}
 use Rattle.session.specs.Session.{Turn, same_turn, strips_or, targets_of}
-use Rattle.session.specs.SessionLaws.{WellLine, WellStrips}
+use Rattle.session.specs.WellLists.{WellLine, WellStrips}
 use Rattle.definition.specs.Shape.{good_turn, shaped_flash}
 use Rattle.definition.specs.Step.{Kept}
 use Rattle.bounds.specs.Drivers.{Each}

@@ -15,7 +15,7 @@ use Rattle.lookup.specs.Lookup.{select_of}
 use Rattle.lookup.specs.declared.Destination.{Destination}
 use Rattle.drivers.specs.Talk.{Talk, got, next}
 use Rattle.session.specs.Session.{Hushed, targets_of, has_room}
-use Rattle.session.specs.SessionLaws.{same_hushed}
+use Rattle.session.specs.WellLists.{same_hushed}
 use Rattle.definition.specs.Rig.{Rig, destination}
 use Rattle.definition.specs.Levels.{kept_by, has_mute}
 use Rattle.definition.specs.Lamps.{push_state}
@@ -23,7 +23,7 @@ use Rattle.definition.specs.Flash.{flash_bank}
 use Rattle.definition.specs.Banks.{selected_as, next_bank, step_left, select_if, select_bank, step_if, step_bank}
 use Rattle.definition.specs.Muting.{adding, added_by_mute}
 use Rattle.definition.specs.Buttons.{walk, select_as}
-use Rattle.definition.specs.SilencingLaws.{held, adding_covers, room_within, once_keys}
+use Rattle.definition.proofs.SilencingLaws.{held, adding_covers, room_within, once_keys}
 use Rattle.session.specs.declared.Lamps.{Lamps}
 use Rattle.session.specs.declared.Moves.{Moves}
 use Rattle.rig.specs.Seen.{rig_in}

@@ -10,13 +10,13 @@ use lib.ListN.{get_or, take}
 use borrow.Author.Tests.{leb-true, ltb-true, le-leb, lt-ltb, eqb-true}
 use Rattle.base.specs.Choice.{pick}
 use Rattle.base.specs.Range.{every}
-use Rattle.base.specs.RangeLaws.{and_left, and_right, every-at}
+use Rattle.base.proofs.RangeLaws.{and_left, and_right, every-at}
 use Rattle.base.specs.Keyed.{all_of, no_twice}
-use Rattle.base.specs.Pigeon.{left_of_lem, right_of}
+use Rattle.base.proofs.Pigeon.{left_of_lem, right_of}
 use Rattle.profile.specs.Profile.{bank_count, verdict}
-use Rattle.profile.specs.Accepted.{few_banks}
+use Rattle.profile.proofs.Accepted.{few_banks}
 use Rattle.session.specs.Session.{seen_line, seen_turns, is_encoder, seen_silenced, targets_of, seen_strips, strips_or, strips_if, good_strip, same_number}
-use Rattle.session.specs.SessionLaws.{WellLine, WellStrips}
+use Rattle.session.specs.WellLists.{WellLine, WellStrips}
 use Rattle.session.specs.declared.Session.{Session}
 use Rattle.session.specs.declared.Flash.{Flash}
 use Rattle.session.specs.declared.Strips.{Strips}
@@ -24,7 +24,7 @@ use Rattle.definition.specs.Shape.{shaped_line, shaped_strips, good_turn, shaped
 use Rattle.definition.specs.Step.{seen}
 use Rattle.surface.specs.Note.{has_note}
 use Rattle.bounds.specs.Well.{Well}
-use Rattle.bounds.specs.Whole.{line_well}
+use Rattle.bounds.proofs.Offered.{line_well}
 use Rattle.after.specs.After.{few_strips, Places}
 
 -- ── the flash ──

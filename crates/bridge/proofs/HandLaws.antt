@@ -16,16 +16,16 @@ use mir.Val.{SFits}
 use borrow.Author.Tests.{leb-true, leb-false, ltb-true, lt-ltb, ne_eqb}
 use Rattle.base.specs.Choice.{pick}
 use Rattle.base.specs.Range.{every}
-use Rattle.base.specs.RangeLaws.{and_left, every-at}
+use Rattle.base.proofs.RangeLaws.{and_left, every-at}
 use Rattle.base.specs.Keyed.{find, any_of, all_of, no_twice}
-use Rattle.base.specs.KeyedLaws as keyed
-use Rattle.base.specs.BesideLaws as side
-use Rattle.base.specs.Pigeon.{left_of_lem, right_of}
+use Rattle.base.proofs.KeyedLaws as keyed
+use Rattle.base.proofs.BesideLaws as side
+use Rattle.base.proofs.Pigeon.{left_of_lem, right_of}
 use Rattle.base.specs.Tail.{at_front}
 use Rattle.profile.specs.Profile.{records, verdict}
-use Rattle.profile.specs.Accepted.{few_records}
+use Rattle.profile.proofs.Accepted.{few_records}
 use Rattle.lookup.specs.Lookup.{dest_at, found_at, encoder_of, precede, encoder_place}
-use Rattle.lookup.specs.LookupLaws.{encoder_place_found, encoder-place-is}
+use Rattle.lookup.proofs.LookupLaws.{encoder_place_found, encoder-place-is}
 use Rattle.lookup.specs.View.{view_of}
 use Rattle.drivers.specs.Talk.{Talk, Got, got, next, start}
 use Rattle.drivers.specs.Bytes.{joined, encode}
@@ -53,7 +53,7 @@ use Rattle.delivery.specs.declared.Outcome.{Outcome}
 use Rattle.after.specs.After.{kept_with, KeepsPlaces, with_turns}
 use Rattle.after.specs.After as after
 use Rattle.bounds.specs.Well.{Well}
-use Rattle.bounds.specs.Whole.{well_seen}
+use Rattle.bounds.proofs.Offered.{well_seen}
 use Rattle.bounds.proofs.WellStep.{step_well}
 use Rattle.bridge.specs.Bridge.{IsCurrent, moved_at, turned_at, moved_of, Asks, Moves, Turns as TurnsAs}
 use Rattle.bridge.specs.declared.Asked.{Asked}

@@ -1,3 +1,5 @@
+pub mod CountsLaws
+pub mod BackLaws
 pub mod Fit
 pub mod ShapedLaws
 pub mod ButtonsLaws

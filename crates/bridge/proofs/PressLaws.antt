@@ -9,14 +9,14 @@ use lib.ListN.{length, get_or}
 use borrow.Author.Tests.{ltb-true, ne_eqb}
 use Rattle.std.proofs.Common.{None, Option, Some}
 use Rattle.std.specs.Option.{unwrap_or}
-use Rattle.base.specs.RangeLaws.{and_right}
-use Rattle.base.specs.FirstLaws.{first-at}
+use Rattle.base.proofs.RangeLaws.{and_right}
+use Rattle.base.proofs.FirstLaws.{first-at}
 use Rattle.protocol.specs.Protocol.{channel_bases, is_of_base, base_of, channel_by, number_of, kind_of, channel_of}
 use Rattle.protocol.specs.declared.Button.{Button}
 use Rattle.protocol.specs.declared.Kind.{Kind}
 use Rattle.protocol.specs.declared.Kind.TheVariants.{Rec, Solo, Mute, Select, BankLeft, BankRight, ArrowLeft, ArrowRight, ArrowUp, ArrowDown, Rewind, Forward, Stop, Play, Record, Unknown}
 use Rattle.profile.specs.Profile.{bank_count}
-use Rattle.profile.specs.Accepted.{few_banks}
+use Rattle.profile.proofs.Accepted.{few_banks}
 use Rattle.drivers.specs.Talk.{Talk}
 use Rattle.session.specs.declared.Lamps.{Lamps}
 use Rattle.definition.specs.Banks.{next_bank}

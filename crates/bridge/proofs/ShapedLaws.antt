@@ -12,7 +12,7 @@ use Rattle.session.specs.declared.Session.{Session}
 use Rattle.definition.specs.Shape.{well_shaped}
 use Rattle.definition.specs.Step.{Kept, fresh_kept, Stepped, seen}
 use Rattle.bounds.specs.Well.{Well}
-use Rattle.bounds.specs.WellStep.{fresh_well}
+use Rattle.bounds.proofs.FreshWell.{fresh_well}
 use Rattle.after.specs.After.{Places}
 use Rattle.delivery.specs.Delivery.{is_done}
 use Rattle.bridge.specs.Bridge.{Delivers}

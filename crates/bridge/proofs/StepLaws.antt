@@ -11,7 +11,7 @@ use lib.IntN.{ℤ}
 use lib.Ieee.{Float}
 use borrow.Author.Tests.{eqb-true, eqb-false, eq-eqb, ne_eqb, ltb-false}
 use Rattle.base.specs.Choice.{pick}
-use Rattle.base.specs.RangeLaws.{or_left_no, or_right_no}
+use Rattle.base.proofs.RangeLaws.{or_left_no, or_right_no}
 use Rattle.base.specs.Keyed.{beside}
 use Rattle.base.specs.Tail.{at_front}
 use Rattle.protocol.specs.declared.Event.TheVariants as event
@@ -22,7 +22,7 @@ use Rattle.drivers.specs.declared.line.Stop.{Stop}
 use Rattle.drivers.specs.declared.line.Stop.TheVariants.{Going, Waits, Declined, Overrun}
 use Rattle.drivers.specs.Shown.{shown}
 use Rattle.drivers.specs.Bytes.{joined, encode}
-use Rattle.drivers.specs.BytesLaws.{calls_length, messages_length}
+use Rattle.drivers.proofs.BytesLaws.{calls_length, messages_length}
 use Rattle.drivers.specs.declared.line.Io.{Io}
 use Rattle.drivers.specs.declared.Call.{Call}
 use Rattle.session.specs.Session.{Turn, targets_of}

@@ -11,7 +11,7 @@ use lib.Ieee.{Float}
 use borrow.Author.Tests.{ltb-true, ltb-false}
 use Rattle.base.specs.Choice.{pick}
 use Rattle.base.specs.Keyed.{change}
-use Rattle.base.specs.KeyedLaws.{change_long}
+use Rattle.base.proofs.KeyedLaws.{change_long}
 use Rattle.protocol.specs.Protocol.{kind_of, channel_of}
 use Rattle.protocol.specs.declared.Button.{Button}
 use Rattle.protocol.specs.declared.Event.TheVariants as event

@@ -2,5 +2,3 @@ pub mod Presses
 pub mod Which
 pub mod Acts
 pub mod Bridge
-pub mod CountsLaws
-pub mod BackLaws

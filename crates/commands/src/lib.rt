@@ -13,7 +13,7 @@ use rig::Current;
 
 // What the bank's driver says this button does, if the profile did not say. The driver is opened for it; its buttons are no call. The
 // kind is the profile's number, as in `run_command`.
-#[tactic(auto, unfolding(definition::specs::Buttons::default_button, drivers::specs::Talk::next), using(lookup::specs::NamedLaws::is_absent, lookup::specs::NamedLaws::is_there, lookup::specs::NamedLaws::its_name))]
+#[tactic(auto, unfolding(definition::specs::Buttons::default_button, drivers::specs::Talk::next), using(lookup::proofs::NamedLaws::is_absent, lookup::proofs::NamedLaws::is_there, lookup::proofs::NamedLaws::its_name))]
 fn default_button(io: &mut Io<'_>, here: &Current<'_>, kind: u8) -> Option<Command>
     ensures { got result (shown io.new) ≡ default_button (rig_in here.now) kind (shown io.old) }
 {

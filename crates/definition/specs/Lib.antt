@@ -11,4 +11,3 @@ pub mod Buttons
 pub mod Step
 pub mod Shape
 pub mod Whole
-pub mod SilencingLaws

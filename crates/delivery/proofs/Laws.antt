@@ -3,7 +3,7 @@ use Rattle.std.specs.Prelude.{ℕ, ◌*◌, ◌/◌, ◌≤◌, ◌<◌, ◌≡�
 use Rattle.std.proofs.Common.{inl, inr}
 use Rattle.base.specs.Tail.{at_front}
 use Rattle.drivers.specs.Shown.{shown}
-use Rattle.drivers.specs.BytesLaws.{calls_length, messages_length, bytes_calls, bytes_messages}
+use Rattle.drivers.proofs.BytesLaws.{calls_length, messages_length, bytes_calls, bytes_messages}
 use Rattle.drivers.specs.declared.Call.{Call}
 use Rattle.drivers.specs.declared.line.Io.{Io}
 use Rattle.drivers.specs.declared.line.Stop.TheVariants.{Going, Waits, Declined, Overrun}

@@ -10,7 +10,7 @@ use Rattle.definition.specs.Step.{Ended, done, refused, waiting}
 use Rattle.definition.specs.Whole.{whole}
 use Rattle.bounds.specs.Room.{FewOf}
 use Rattle.delivery.specs.Delivery.{is_done, messages_after, calls_after}
-use Rattle.bridge.specs.BackLaws.{BackOf, leaves_back}
+use Rattle.bridge.proofs.BackLaws.{BackOf, leaves_back}
 use Rattle.host.specs.Report.{Reports}
 use Rattle.demands.specs.Running.{Step, Does, Runs}
 use Rattle.demands.specs.Shown.{Exchange, exchange_of, HoldsOf}

@@ -22,7 +22,7 @@ use Rattle.event.specs.declared.Timed.{Timed}
 use Rattle.definition.specs.Shape.{well_shaped}
 use Rattle.definition.specs.Step.{Kept, Site, Ended, done, refused, waiting, Stepped, stepped, seen, step}
 use Rattle.definition.specs.Whole.{whole, offered}
-use Rattle.bounds.specs.ReadBack.{calls_back}
+use Rattle.bounds.proofs.ReadBack.{calls_back}
 use Rattle.account.specs.Account.{Past, step_of, past_at, past_of, pasts, final}
 use Rattle.delivery.specs.Delivery.{is_done, outcome_of, calls_after, Refused}
 use Rattle.bridge.specs.Bridge.{Leaves}

@@ -13,18 +13,19 @@ use borrow.Author.Tests.{lt-ltb, le-ltb, le-leb, lt-leb, eq-eqb, ne_eqb, leb-tru
 use borrow.Rule.Slice.PartMut.{put_mid}
 use Rattle.base.specs.Range.{all}
 use Rattle.base.specs.Words.{le16, le32, le64, bytes16, bytes32, bytes64, put16, put32, put64}
-use Rattle.base.specs.WordsLaws.{halves16, halves32, halves64}
-use Rattle.base.specs.Tail.{over, at_front, tail_over}
+use Rattle.base.proofs.WordsLaws.{halves16, halves32, halves64}
+use Rattle.base.specs.Tail.{over, at_front}
+use Rattle.base.proofs.TailLaws.{tail_over}
 use Rattle.protocol.specs.Protocol.{bytes_of}
 use Rattle.protocol.specs.declared.Out.{Out}
 use Rattle.protocol.specs.declared.Out.TheVariants.{Led, Position}
 use Rattle.std.proofs.Common.{cond}
 use Rattle.drivers.specs.Answers.{item_fits, live_fits, count_at, item_at, items_of, list_if, answer_of, is_unfit, is_list, item_count}
-use Rattle.drivers.specs.AnswersLaws.{answer_bounded, answer_there, item_most}
+use Rattle.drivers.proofs.AnswersLaws.{answer_bounded, answer_there, item_most}
 use Rattle.drivers.specs.Kinds.{number_of}
 use Rattle.drivers.specs.Talk.{is_going, is_open, opening, got, no_reply, name_of, plain_call, ask, ask_room, ask_left, ask_fit, send, send_room}
 use Rattle.drivers.specs.Shown.{call_bytes, call_at, calls_in, message_at, messages_in, shown, stopped, opened_in, sent_with, reply_in, Listing}
-use Rattle.drivers.specs.BytesLaws.{calls_length, messages_length}
+use Rattle.drivers.proofs.BytesLaws.{calls_length, messages_length}
 use Rattle.drivers.specs.declared.Call.{Call}
 use Rattle.drivers.specs.declared.kind.Kind.{Kind}
 use Rattle.drivers.specs.contracts.kind.Kind.{the_type}

@@ -3,8 +3,8 @@ use Rattle.std.specs.Prelude.{ℕ, ◌/◌, ◌≡◌, refl, Bool, true, false, 
 use Rattle.std.proofs.Common.{sym, true≢false}
 use borrow.Author.Tests.{eqb-true}
 use Rattle.base.specs.Choice.{pick}
-use Rattle.base.specs.Range.{all, bit}
-use Rattle.drivers.specs.Answers.{count_at, item_fits, live_fits, list_if, scene_list, live_list, yes_no, to_read, to_playing, to_scenes, to_current, to_live, to_other, answer_to, answer_of, is_unfit, number_of, Carries}
+use Rattle.base.specs.Range.{all}
+use Rattle.drivers.specs.Answers.{count_at, item_fits, live_fits, list_if, scene_list, live_list, yes_no, to_read, to_playing, to_scenes, to_current, to_live, to_other, answer_of, is_unfit, number_of, Carries}
 use Rattle.drivers.specs.declared.Answer.{Answer}
 use Rattle.drivers.specs.declared.Answer.TheVariants as answer
 

@@ -12,7 +12,7 @@ use Rattle.drivers.specs.Talk.{Talk, Got, Reply, start, ask, ask_at, ask_room, a
 use Rattle.drivers.specs.declared.line.Stop.{Stop}
 use Rattle.drivers.specs.declared.line.Stop.TheVariants.{Going, Waits, Declined, Overrun}
 use Rattle.drivers.specs.Paired.{reply_to, behind, after, paired, Fed}
-use Rattle.drivers.specs.PairedLaws.{after-append, paired-append, waits_on, declined_on, overrun_on}
+use Rattle.drivers.proofs.PairedLaws.{after-append, paired-append, waits_on, declined_on, overrun_on}
 use Rattle.drivers.specs.declared.Call.{Call}
 
 -- one call more

@@ -348,7 +348,7 @@ impl<'a> Io<'a> {
     }
 
     // A lamp's message, behind the event's messages already there. Each lamp and each position has its writer by a rule of the project, so that the senders are two.
-    #[tactic(auto, using(base::specs::Tail::tail_over))]
+    #[tactic(auto, using(base::proofs::TailLaws::tail_over))]
     pub fn send_led(&mut self, note: u8, on: bool)
         ensures { shown self.new ≡ send (Led note on) (shown self.old) }
     {
@@ -358,7 +358,7 @@ impl<'a> Io<'a> {
     }
 
     // Every position that is sent goes through here.
-    #[tactic(auto, using(base::specs::Tail::tail_over))]
+    #[tactic(auto, using(base::proofs::TailLaws::tail_over))]
     pub fn send_position(&mut self, channel: u8, value: f64)
         ensures { shown self.new ≡ send (sent_to channel value) (shown self.old) }
     {

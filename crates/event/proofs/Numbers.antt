@@ -3,7 +3,7 @@ use Rattle.std.specs.Prelude.{ℕ, ◌≤◌, ◌≡◌, refl, Bool, true, false
 use Rattle.std.proofs.Common.{arith, sym}
 use borrow.Author.Tests.{eqb-true, eqb-false, leb-true}
 use Rattle.base.specs.Choice.{pick}
-use Rattle.base.specs.RangeLaws.{and_left, and_right}
+use Rattle.base.proofs.RangeLaws.{and_left, and_right}
 use Rattle.std.proofs.lemmas.Bool.{false≢true}
 use Rattle.event.specs.Event.{event_ok, input_of, number_of, Carries}
 use Rattle.event.specs.declared.Input.{Input}

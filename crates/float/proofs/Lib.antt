@@ -1,3 +1,4 @@
+pub mod LeafLaws
 pub mod Bits
 pub mod Floor
 pub mod Held

@@ -6,14 +6,15 @@ use Rattle.std.proofs.lemmas.Bool.{not-true, not-false}
 use borrow.Author.Tests.{lt-leb}
 use lib.Seq.{drop-cons}
 use Rattle.base.specs.Keyed.{find, all_of, beside}
-use Rattle.base.specs.Pigeon.{left_of_lem, right_of}
-use Rattle.base.specs.KeyedLaws as laws
-use Rattle.base.specs.BesideLaws as side
+use Rattle.base.proofs.Pigeon.{left_of_lem, right_of}
+use Rattle.base.proofs.KeyedLaws as laws
+use Rattle.base.proofs.BesideLaws as side
 use Rattle.lookup.specs.declared.Destination.{Destination}
 use Rattle.drivers.specs.Talk.{Talk, got, next}
 use Rattle.session.specs.Session.{Turn, turn_at, turns_up_to, is_encoder, wires_to, is_dest, low_channel}
-use Rattle.session.specs.SearchLaws.{place-in, no-place-in}
-use Rattle.session.specs.SessionLaws.{sums_in, sums_long, same_sum}
+use Rattle.session.proofs.SearchLaws.{place-in, no-place-in}
+use Rattle.session.specs.WellLists.{sums_in}
+use Rattle.session.proofs.SessionLaws.{sums_long, same_sum}
 use Rattle.session.specs.declared.Move.{Move}
 use Rattle.definition.specs.Rig.{Rig, destination}
 use Rattle.definition.specs.Levels.{read}

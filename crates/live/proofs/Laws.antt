@@ -6,7 +6,7 @@ use mathlib.Core.Bool.{Bool, true, false, ◌||◌}
 use mathlib.Core.List.{List}
 use lib.Dec.{eqb}
 use Rattle.lookup.specs.Lookup.{named}
-use Rattle.lookup.specs.NamedLaws.{is_absent, is_there}
+use Rattle.lookup.proofs.NamedLaws.{is_absent, is_there}
 use Rattle.drivers.specs.Talk.{Talk, got}
 use Rattle.session.specs.declared.Strip.{Strip}
 use Rattle.session.specs.declared.Lamps.{Lamps}

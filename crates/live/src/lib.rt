@@ -25,7 +25,7 @@ fn is_as_before(before: &Strips, after: &Strips) -> bool
 }
 
 // What the driver handed over. A refusal counts as an empty list.
-#[tactic(auto, unfolding(session::specs::Session::strips_of, base::specs::Keyed::keep), using(session::specs::SessionLaws::is_known))]
+#[tactic(auto, unfolding(session::specs::Session::strips_of, base::specs::Keyed::keep), using(session::proofs::SessionLaws::is_known))]
 fn handed(driver: u8, faders: Option<LiveFaders>) -> Strips
     ensures value { seen_strips result ≡ Some (handed driver (listed faders)) }
     ensures known { (result.known ≡ true) × (result.count ≤ 8) }

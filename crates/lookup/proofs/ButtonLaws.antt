@@ -4,8 +4,8 @@ use Rattle.std.specs.List.{position}
 use Rattle.std.proofs.Common.{sym, ap, ◌∙◌, ltb-true, ltb-false, length-take-le, arith}
 use Rattle.std.proofs.lemmas.Option.{cond_some}
 use Rattle.base.specs.Keyed.{at}
-use Rattle.base.specs.KeyedLaws as laws
-use Rattle.base.specs.StdLaws.{position-at}
+use Rattle.base.proofs.KeyedLaws as laws
+use Rattle.base.proofs.StdLaws.{position-at}
 use Rattle.lookup.specs.declared.Entry.{Entry}
 use Rattle.lookup.specs.Lookup.{of_kind, place}
 

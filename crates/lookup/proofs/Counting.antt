@@ -5,16 +5,16 @@ use Rattle.std.proofs.Math.Path.{refl}
 use Rattle.std.proofs.Common.{sym, ◌∙◌, ⊎_elim, eq-or-lt_of_le, add-zero, arith}
 use Rattle.std.proofs.lemmas.List.{map-append}
 use Rattle.base.specs.Range.{count, bit}
-use Rattle.base.specs.RangeLaws.{bit_le, count_none, count-more}
+use Rattle.base.proofs.RangeLaws.{bit_le, count_none, count-more}
 use Rattle.base.specs.First.{first, or_else}
-use Rattle.base.specs.FirstLaws.{first-hit, first_each, until-done}
+use Rattle.base.proofs.FirstLaws.{first-hit, first_each, until-done}
 use Rattle.profile.specs.Profile.{records}
 use Rattle.lookup.specs.declared.Command.{Command}
 use Rattle.lookup.specs.declared.Entry.{Entry}
 use Rattle.lookup.specs.Gather.{gather}
 use Rattle.lookup.specs.Lookup.{is_entry, is_past, reach, entry, of_part, entry_at, transports_of, merged, before, times}
-use Rattle.lookup.specs.LookupLaws.{entry-is}
-use Rattle.lookup.specs.CommonLaws.{Best, times_at}
+use Rattle.lookup.proofs.LookupLaws.{entry-is}
+use Rattle.lookup.proofs.CommonLaws.{Best, times_at}
 
 -- no number below n passes
 pub first-nothing : (p : ℕ → Bool) (n : ℕ) → ((k : ℕ) → k < n → p k ≡ false) → first n p ≡ None

@@ -10,7 +10,7 @@ use Rattle.std.proofs.Math.ListN.{length, length-append}
 use Rattle.base.specs.Choice.{pick}
 use Rattle.base.specs.Range.{count, bit}
 use Rattle.lookup.specs.Gather.{gather}
-use Rattle.lookup.specs.FirstMore.{not_behind}
+use Rattle.lookup.proofs.FirstMore.{not_behind}
 
 module _ {A : Type 0} (p : ℕ → Bool) (g : ℕ → A) where
   pub gather_yes : (i : ℕ) → p i ≡ true → gather (i + 1) p g ≡ gather i p g ++ (g i ∷ [])

@@ -1,13 +1,13 @@
 -- What is known of what an accepted profile's lookups find. Assumes nothing.
 use Rattle.std.specs.Prelude.{ℕ, ◌≡◌, List}
 use borrow.Author.Tests.{eqb-true}
-use Rattle.base.specs.RangeLaws.{and_left}
+use Rattle.base.proofs.RangeLaws.{and_left}
 use Rattle.profile.specs.Profile.{records, byte_at, half_at, verdict}
 use Rattle.lookup.specs.Gather.{gather}
-use Rattle.lookup.specs.Known.{in_reach}
+use Rattle.lookup.proofs.Found.{in_reach}
 use Rattle.lookup.proofs.GatherLaws.{gather_short}
 use Rattle.lookup.specs.Lookup.{reach, of_part, scenes_of, entry_at, transports_of}
-use Rattle.lookup.specs.LookupLaws.{reach-le}
+use Rattle.lookup.proofs.LookupLaws.{reach-le}
 
 module _ (s : List ℕ) (ok : verdict s ≡ 0) where
   -- a bank's scenes are all that the file has

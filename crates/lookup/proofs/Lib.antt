@@ -1,3 +1,11 @@
+pub mod NamedLaws
+pub mod SeenLaws
+pub mod LookupLaws
+pub mod FirstMore
+pub mod FewTransports
+pub mod CommonLaws
+pub mod Found
+pub mod Sample
 pub mod Rows
 pub mod ButtonLaws
 pub mod GatherLaws

@@ -12,13 +12,13 @@ use Rattle.std.proofs.lemmas.List.FromFn.{length-map-range_with_len}
 use mathlib.Core.List.{append-nil}
 use borrow.Author.Tests.{lt-ltb, le-ltb}
 use Rattle.base.specs.First.{first}
-use Rattle.base.specs.FirstLaws.{first-none, first_more, first-hit}
+use Rattle.base.proofs.FirstLaws.{first-none, first_more, first-hit}
 use Rattle.profile.specs.declared.record.Record.{Record}
 use Rattle.profile.specs.Profile.{records, byte_at}
 use Rattle.lookup.specs.Gather.{gather}
 use Rattle.lookup.proofs.GatherLaws.{gather_yes, gather_no}
 use Rattle.lookup.specs.Lookup.{is_past, reach}
-use Rattle.lookup.specs.LookupLaws.{reach-le, reach_here, reach_on}
+use Rattle.lookup.proofs.LookupLaws.{reach-le, reach_here, reach_on}
 use Rattle.lookup.specs.Rows.{Row, row, row_of, rows, of, rows_of}
 
 over : (s : List ℕ) (k n : ℕ) → n ≤ k → rows s k (n - k) ≡ []

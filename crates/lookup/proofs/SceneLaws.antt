@@ -7,9 +7,9 @@ use Rattle.std.proofs.lemmas.List.{length-map}
 use Rattle.std.proofs.lemmas.Option.{slice_get-map, unwrap_or-slice_get}
 use Rattle.std.proofs.Math.ListN.{get_or-map}
 use Rattle.base.specs.First.{first}
-use Rattle.base.specs.FirstLaws.{first_cong}
-use Rattle.base.specs.KeyedLaws.{other_none}
-use Rattle.base.specs.StdLaws.{position-first}
+use Rattle.base.proofs.FirstLaws.{first_cong}
+use Rattle.base.proofs.KeyedLaws.{other_none}
+use Rattle.base.proofs.StdLaws.{position-first}
 use Rattle.profile.specs.declared.record.Record.{Record}
 use Rattle.profile.specs.Profile.{half_at}
 use Rattle.lookup.specs.Lookup.{reach, scenes_of, position}

@@ -7,15 +7,15 @@ use Rattle.std.proofs.lemmas.List.{length-map}
 use Rattle.base.specs.Range.{every}
 use Rattle.lookup.specs.declared.Entry.{Entry}
 use Rattle.base.specs.First.{first}
-use Rattle.base.specs.FirstLaws.{first_cong}
+use Rattle.base.proofs.FirstLaws.{first_cong}
 use Rattle.base.specs.Keyed.{find as find_of}
 use Rattle.lookup.proofs.GatherLaws.{gather-length}
 use Rattle.lookup.specs.Rows.{Row, row, rows, of, rows_of}
 use Rattle.lookup.proofs.Rows.{gather_rows, find_rows}
 use Rattle.profile.specs.Profile.{verdict}
-use Rattle.lookup.specs.LookupLaws.{reach-le}
-use Rattle.lookup.specs.TransportLaws.{own_few}
-use Rattle.base.specs.KeyedLaws.{change_long}
+use Rattle.lookup.proofs.LookupLaws.{reach-le}
+use Rattle.lookup.proofs.FewTransports.{own_few}
+use Rattle.base.proofs.KeyedLaws.{change_long}
 use Rattle.lookup.specs.Lookup.{is_entry, reach, entry, entry_at, command_at, transports_of, of_kind, bound_by, transport_of, place}
 
 abbrev pub button_in : Row → Entry

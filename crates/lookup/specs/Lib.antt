@@ -1,12 +1,4 @@
 pub mod Gather
 pub mod Lookup
-pub mod NamedLaws
 pub mod Rows
 pub mod View
-pub mod SeenLaws
-pub mod LookupLaws
-pub mod FirstMore
-pub mod TransportLaws
-pub mod CommonLaws
-pub mod Known
-pub mod Sample

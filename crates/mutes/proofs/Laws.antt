@@ -6,7 +6,7 @@ use Rattle.lookup.specs.declared.Destination.{Destination}
 use Rattle.session.specs.Session.{Hushed, targets_of, is_hushed, hushed_level, has_room}
 use Rattle.definition.specs.Levels.{kept_by, has_mute}
 use Rattle.mutes.specs.Held.{room_for, room_at}
-use Rattle.mutes.specs.HeldLaws.{held_some, held_none}
+use Rattle.mutes.proofs.HeldLaws.{held_some, held_none}
 
 -- ── the silenced ──
 

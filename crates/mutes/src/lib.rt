@@ -56,7 +56,7 @@ fn zeroed(io: &mut Io<'_>, dest: Destination, silenced: &mut Silenced)
 
 // ── mute ──
 
-#[tactic(auto, using(crate::specs::HeldLaws::held_some, crate::specs::HeldLaws::held_none))]
+#[tactic(auto, using(crate::proofs::HeldLaws::held_some, crate::proofs::HeldLaws::held_none))]
 fn mute_at(io: &mut Io<'_>, dest: Destination, silenced: &mut Silenced)
     requires count_bound { silenced.old.count ≤ 256 }
     requires room { room_for dest (take silenced.old.count silenced.old.targets) ≡ true }

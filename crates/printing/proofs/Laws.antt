@@ -7,7 +7,7 @@ use Rattle.std.proofs.Math.Seq.{take-append_seam, drop-append_seam}
 use lib.Dec.{lit<, lit≤}
 use lib.ListN.{get_or-eq_default}
 use Rattle.base.specs.Words.{le64}
-use Rattle.drivers.specs.BytesLaws.{take_three}
+use Rattle.drivers.proofs.BytesLaws.{take_three}
 use Rattle.drivers.specs.declared.Call.{Call}
 use Rattle.drivers.specs.Shown.{call_at, calls_in, message_at, messages_in}
 use Rattle.io.specs.Digits.{IsDigitCount, hex_digit_ascii, last_digits}

@@ -6,7 +6,7 @@ use Rattle.base.specs.Choice.{pick}
 use Rattle.drivers.specs.declared.Call.{Call}
 use Rattle.io.specs.Digits.{hex_digit_ascii}
 use Rattle.printing.specs.Ascii.{ascii}
-use Rattle.printing.specs.Text.{decimal_in, decimal, bits, hex, word, level, line_end, kind_words, kind_word, call_words, call_line, call_lines, message_line, message_lines, step_words, count_words, profile_line, refused_line, waiting_lines}
+use Rattle.printing.specs.Text.{decimal_in, decimal, bits, hex, word, level, line_end, kind_word, call_words, call_line, call_lines, message_line, step_words, count_words, profile_line, refused_line, waiting_lines}
 
 digits_most : (more n : ℕ) → length (decimal_in more n) ≤ suc more
 unfolding decimal_in

@@ -8,7 +8,7 @@ use native.Mathlib.Nat.{le_antisymm, eq-or-lt_of_le}
 use native.Mathlib.Omega.{arith}
 use borrow.Author.Tests.{ne_eqb}
 use Rattle.base.specs.Range.{all}
-use Rattle.base.specs.RangeLaws.{every-at}
+use Rattle.base.proofs.RangeLaws.{every-at}
 use Rattle.profile.specs.Profile.{records, byte_at, control, again, once_each, ends_finite, finite_ok, ordered_at, order_ok}
 use Rattle.profile.proofs.Ordered.{kinds_rise}
 

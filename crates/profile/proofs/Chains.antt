@@ -5,8 +5,8 @@ use Rattle.std.proofs.lemmas.List.FromFn.{length-range_with_len, get_or-range_wi
 use Rattle.std.proofs.lemmas.List.Folds.{length-prefix_len}
 use Rattle.std.proofs.lemmas.List.Sums.{fold_more, prefix_len-le-length, prefix_len_passes, prefix_len_stops}
 use Rattle.base.specs.Range.{all}
-use Rattle.base.specs.RangeLaws.{all_each}
-use Rattle.base.specs.StdLaws.{list_all-range}
+use Rattle.base.proofs.RangeLaws.{all_each}
+use Rattle.base.proofs.StdLaws.{list_all-range}
 
 take-range : (a n k : ℕ) → k ≤ n → take k (range_with_len a n) ≡ range_with_len a k
 take-range a n zero h = refl

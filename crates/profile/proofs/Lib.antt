@@ -1,3 +1,8 @@
+pub mod OrderLaws
+pub mod LimitLaws
+pub mod RangeMore
+pub mod FieldLaws
+pub mod Accepted
 pub mod Chains
 pub mod Ordered
 pub mod Behind

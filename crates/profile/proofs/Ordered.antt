@@ -13,10 +13,10 @@ use Rattle.std.specs.Prelude.{Some, None}
 use Rattle.std.proofs.lemmas.Bool.{leb-false}
 use borrow.Author.Tests.{leb-true, ltb-true, ltb-false, eqb-true, le-leb, le-ltb, lt-ltb, eq-eqb, ne_eqb}
 use Rattle.base.specs.Range.{all, count, bit, every}
-use Rattle.base.specs.RangeLaws.{all_none, all_more, all-at, all_each, all_stop, all_done, count_none, count-more, count-le, count-done, or_cases, or_left_no, or_right_no, bool_iff, every-at, and_left, and_right, and_intro}
+use Rattle.base.proofs.RangeLaws.{all_none, all_more, all-at, all_each, all_stop, all_done, count_none, count-more, count-le, count-done, or_cases, or_left_no, or_right_no, bool_iff, every-at, and_left, and_right, and_intro}
 use Rattle.profile.specs.Profile.{records, byte_at, is_kind, kind_count, bank_count, kind_before, rises, runs, names_bank, ordered_at}
 use Rattle.profile.specs.Order.{leads_at, follows_at}
-use Rattle.profile.specs.RangeMore.{count_mono, count-reach}
+use Rattle.profile.proofs.RangeMore.{count_mono, count-reach}
 
 -- record k, if it is of kind 2 to 5, names one of the banks before it or the globals
 abbrev pub names_before : List ℕ → ℕ → Bool

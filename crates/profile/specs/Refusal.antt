@@ -1,4 +1,4 @@
--- The causes to decline a profile, and their numbers. Assumes nothing.
+-- The causes to decline a profile, and their numbers. Definitions only.
 use Rattle.std.specs.Prelude.{ℕ, ⊤, Result, Ok, Err}
 use Rattle.profile.specs.declared.Refusal.{Refusal}
 use Rattle.profile.specs.declared.Refusal.TheVariants.{Size, Fields, Order, Banks, Limits, Ends}

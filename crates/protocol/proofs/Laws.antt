@@ -10,8 +10,8 @@ use lib.ListN.{get_or, drop}
 use borrow.Author.Tests.{leb-true, ltb-true, lt-ltb}
 use Rattle.std.proofs.Common.{eqb, eqb-true}
 use Rattle.base.specs.Range.{all}
-use Rattle.base.specs.RangeLaws.{all-at, and_left, bool_iff}
-use Rattle.base.specs.FirstLaws.{first-at}
+use Rattle.base.proofs.RangeLaws.{all-at, and_left, bool_iff}
+use Rattle.base.proofs.FirstLaws.{first-at}
 use Rattle.base.specs.Tail.{at_front}
 use Rattle.protocol.specs.Protocol.{channel_bases, is_of_base, is_named, base_of, named_of, number_of, bytes_of}
 use Rattle.protocol.specs.declared.Kind.{Kind}

@@ -11,7 +11,7 @@ use lib.Dec.{leb}
 use borrow.Author.Tests.{leb-true, leb-false}
 use Rattle.rig.specs.Seen.{target_if}
 use Rattle.lookup.specs.Lookup.{named}
-use Rattle.lookup.specs.NamedLaws.{its_name, named_absent}
+use Rattle.lookup.proofs.NamedLaws.{its_name, named_absent}
 use Rattle.lookup.specs.declared.Destination.{Destination}
 use Rattle.definition.specs.Rig.{Here, own_fader, driver_in, own_drivers, first_target}
 

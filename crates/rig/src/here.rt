@@ -19,7 +19,7 @@ fn target_on(to: &Option<Destination>, driver: u8) -> Option<u16>
 
 impl Current<'_> {
     // What the current bank itself wires the fader to: a live bank's are the ones its driver handed over last.
-    #[tactic(auto, unfolding(definition::specs::Rig::own_fader), using(lookup::specs::NamedLaws::by_none, lookup::specs::NamedLaws::by_some))]
+    #[tactic(auto, unfolding(definition::specs::Rig::own_fader), using(lookup::proofs::NamedLaws::by_none, lookup::proofs::NamedLaws::by_some))]
     pub fn own_fader(&self, number: u8) -> Option<Destination>
         ensures { result ≡ own_fader (here_in self.now) number }
     {
@@ -80,7 +80,7 @@ impl Accepted<'_> {
     }
 
     // The driver of this bank's device: its own, else the one most of its faders use.
-    #[tactic(auto, unfolding(definition::specs::Rig::device), using(lookup::specs::NamedLaws::by_none, lookup::specs::NamedLaws::by_some))]
+    #[tactic(auto, unfolding(definition::specs::Rig::device), using(lookup::proofs::NamedLaws::by_none, lookup::proofs::NamedLaws::by_some))]
     pub fn device(&self) -> Option<u8>
         ensures { result ≡ named (device_of (here_in self.now.here)) }
     {

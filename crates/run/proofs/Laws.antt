@@ -10,7 +10,7 @@ use Rattle.profile.specs.Profile.{verdict}
 use Rattle.profile.specs.Refusal.{number_of}
 use Rattle.profile.specs.declared.Refusal.{Refusal}
 use Rattle.profile.specs.declared.Refusal.TheVariants.{Size, Fields, Order, Banks, Limits, Ends}
-use Rattle.drivers.specs.BytesLaws.{calls_length, messages_length}
+use Rattle.drivers.proofs.BytesLaws.{calls_length, messages_length}
 use Rattle.drivers.specs.Shown.{calls_in, messages_in}
 use Rattle.session.specs.Session.{fresh_session}
 use Rattle.session.specs.declared.Session.{Session}
@@ -19,12 +19,12 @@ use Rattle.definition.specs.Step.{Ended, done, refused, waiting, Kept, seen, fre
 use Rattle.definition.specs.Whole.{whole}
 use Rattle.delivery.specs.Delivery.{told, told_done, outcome_of}
 use Rattle.bridge.specs.Bridge.{Delivers, used_in}
-use Rattle.bridge.specs.BackLaws.{BackOf, delivers_back}
+use Rattle.bridge.proofs.BackLaws.{BackOf, delivers_back}
 use Rattle.bridge.specs.declared.Stepped as declared
 use Rattle.bridge.proofs.ShapedLaws.{fresh-seen}
 use Rattle.printing.specs.Ascii.{ascii}
 use Rattle.printing.specs.Text.{line_end, message_lines, call_lines, step_words, count_words, profile_line}
-use Rattle.printing.specs.TextLaws.{messages_first, calls_first}
+use Rattle.printing.proofs.TextLaws.{messages_first, calls_first}
 use Rattle.run.specs.Said.{done_text, outcome_text, event_text, records_in, records, became, goes_on, events_text, program_text}
 
 -- the parts of both buffers that are written of a done event

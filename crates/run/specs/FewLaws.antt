@@ -1,4 +1,4 @@
--- That an outcome has few messages and calls is one fact: it has one proof at most. Assumes nothing.
+-- That an outcome has few messages and calls is one fact: it has one proof at most. Definitions only.
 use denote.Struct.Props as logic
 use Rattle.delivery.specs.Delivery.{Told, Done, Refused, Waiting}
 use Rattle.bridge.specs.Bridge.{Few}

@@ -3,10 +3,10 @@ use Rattle.std.specs.Prelude.{ℕ, ◌≤◌, ◌<◌, ◌≡◌, refl, List, le
 use Rattle.std.specs.List.{position as place_of_first}
 use Rattle.std.specs.Option.{unwrap_or}
 use Rattle.std.proofs.Common.{arith, Fits, w32}
-use Rattle.base.specs.FirstLaws.{first-at}
-use Rattle.base.specs.StdLaws.{position-first}
+use Rattle.base.proofs.FirstLaws.{first-at}
+use Rattle.base.proofs.StdLaws.{position-first}
 use Rattle.profile.specs.Profile.{count_of, verdict}
-use Rattle.profile.specs.Accepted.{few_scenes}
+use Rattle.profile.proofs.Accepted.{few_scenes}
 use Rattle.lookup.proofs.GatherLaws.{gather-length}
 use Rattle.lookup.proofs.Known.{scenes-whole}
 use Rattle.lookup.specs.Lookup.{scenes_of, position}

@@ -38,7 +38,7 @@ fn load_on(io: &mut Io<'_>, driver: u8, name: u16, i: usize) -> bool
 }
 
 // Whether scene i was loaded.
-#[tactic(auto, unfolding(definition::specs::Scenes::load_scene_at, drivers::specs::Talk::next), using(lookup::specs::NamedLaws::is_absent, lookup::specs::NamedLaws::is_there, lookup::specs::NamedLaws::or_absent_is, lookup::specs::NamedLaws::its_name))]
+#[tactic(auto, unfolding(definition::specs::Scenes::load_scene_at, drivers::specs::Talk::next), using(lookup::proofs::NamedLaws::is_absent, lookup::proofs::NamedLaws::is_there, lookup::proofs::NamedLaws::or_absent_is, lookup::proofs::NamedLaws::its_name))]
 pub fn load_scene_at(io: &mut Io<'_>, here: &Accepted<'_>, panel: &mut Panel<'_>, i: usize) -> bool
     requires { here.now.here.bank < 16 }
     ensures value { got (loaded panel.new.lamps result) (shown io.new) ≡ load_scene_at (rig_in here.now.here) panel.old.hushed.now i panel.old.lamps (shown io.old) }

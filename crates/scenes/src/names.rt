@@ -57,7 +57,7 @@ pub fn place_in(names: &Names, name: u16) -> Option<usize>
 }
 
 // Which scenes this device offers, in order: the profile's list when it has one, otherwise whatever the device itself reports.
-#[tactic(auto, unfolding(definition::specs::Scenes::scene_names, drivers::specs::Talk::next), using(lookup::specs::NamedLaws::is_absent, lookup::specs::NamedLaws::is_there, crate::proofs::Laws::own_few, lookup::specs::NamedLaws::its_name))]
+#[tactic(auto, unfolding(definition::specs::Scenes::scene_names, drivers::specs::Talk::next), using(lookup::proofs::NamedLaws::is_absent, lookup::proofs::NamedLaws::is_there, crate::proofs::Laws::own_few, lookup::proofs::NamedLaws::its_name))]
 pub fn scene_names(io: &mut Io<'_>, here: &Accepted<'_>) -> Offer
     ensures value { got (seen_offer here.now.here.profile.now here.now.here.bank result) (shown io.new) ≡ scene_names (here_in here.now.here) (shown io.old) }
     ensures offers { Offers here.now.here.profile.now here.now.here.bank result }
@@ -75,7 +75,7 @@ pub fn scene_names(io: &mut Io<'_>, here: &Accepted<'_>) -> Offer
 // ── where the device is ──
 
 // Where the device itself is, as a position among the scenes offered, or nothing when it cannot say.
-#[tactic(auto, unfolding(definition::specs::Scenes::scene_on_device, drivers::specs::Talk::next), using(lookup::specs::NamedLaws::is_absent, lookup::specs::NamedLaws::is_there, crate::proofs::Laws::position_low, lookup::specs::NamedLaws::its_name))]
+#[tactic(auto, unfolding(definition::specs::Scenes::scene_on_device, drivers::specs::Talk::next), using(lookup::proofs::NamedLaws::is_absent, lookup::proofs::NamedLaws::is_there, crate::proofs::Laws::position_low, lookup::proofs::NamedLaws::its_name))]
 fn scene_on_device(io: &mut Io<'_>, here: &Accepted<'_>, offer: &Offer) -> Option<usize>
     requires offers { Offers here.now.here.profile.now here.now.here.bank offer.now }
     ensures value { got result (shown io.new) ≡ scene_on_device (here_in here.now.here) (seen_offer here.now.here.profile.now here.now.here.bank offer.now) (shown io.old) }

@@ -15,13 +15,14 @@ use lib.IntN.{ℤ, pos, ◌+ℤ◌}
 use borrow.Author.Tests.{ltb-true, ltb-false}
 use Rattle.base.specs.Choice.{pick}
 use Rattle.base.specs.Keyed.{at, any_of, all_of, keep, beside}
-use Rattle.base.specs.BesideLaws as side
-use Rattle.base.specs.KeyedLaws as laws
-use Rattle.base.specs.StdLaws.{find-find}
+use Rattle.base.proofs.BesideLaws as side
+use Rattle.base.proofs.KeyedLaws as laws
+use Rattle.base.proofs.StdLaws.{find-find}
 use Rattle.lookup.specs.Lookup.{dest_at}
 use Rattle.session.specs.Session.{Turn, turn_at, turns_up_to, is_encoder, wires_to, is_dest, add_to, first_turn, turn, RoomToTurn, Hushed, hushed_at, hushed_up_to, hushed_level, hush, unhush, has_room, same_target, is_target, other_target, is_strip, strip_at}
 use Rattle.session.specs.declared.Strip.{Strip}
-use Rattle.session.specs.SessionLaws.{sums_in, sums_long, same_sum}
+use Rattle.session.specs.WellLists.{sums_in}
+use Rattle.session.proofs.SessionLaws.{sums_long, same_sum}
 
 -- what stands past an array's end
 abbrev pub no_hushed : Hushed

@@ -15,11 +15,11 @@ use Rattle.std.specs.List.{list_all, list_any}
 use Rattle.base.specs.Choice.{pick}
 use Rattle.base.specs.Range.{all, every}
 use Rattle.base.specs.Keyed.{at, any_of, all_of, no_twice}
-use Rattle.base.specs.RangeLaws.{all_cong}
-use Rattle.base.specs.KeyedLaws.{once_none, any_yes, any_no}
-use Rattle.base.specs.StdLaws.{list_all-all_of, list_any-any_of, position-at}
-use Rattle.base.specs.Pigeon.{left_of_lem, right_of}
-use Rattle.base.specs.BesideLaws.{beside-all, beside_once}
+use Rattle.base.proofs.RangeLaws.{all_cong}
+use Rattle.base.proofs.KeyedLaws.{once_none, any_yes, any_no}
+use Rattle.base.proofs.StdLaws.{list_all-all_of, list_any-any_of, position-at}
+use Rattle.base.proofs.Pigeon.{left_of_lem, right_of}
+use Rattle.base.proofs.BesideLaws.{beside-all, beside_once}
 use Rattle.session.specs.Session.{turn_at, is_encoder, same_turn}
 use Rattle.session.specs.declared.Turns.{Turns}
 use Rattle.definition.specs.Faders.{in_range}

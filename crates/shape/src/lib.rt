@@ -166,7 +166,7 @@ fn shaped_turns(profile: &[u8], turns: &Turns) -> bool
 
 // ── silenced levels ──
 
-#[tactic(auto, using(session::specs::SessionLaws::targets_seen), unfolding(definition::specs::Shape::shaped_silenced))]
+#[tactic(auto, using(session::proofs::SessionLaws::targets_seen), unfolding(definition::specs::Shape::shaped_silenced))]
 fn shaped_silenced(silenced: &Silenced) -> bool
     ensures { result ≡ shaped_silenced silenced.now }
 {

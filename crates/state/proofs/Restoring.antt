@@ -7,9 +7,9 @@ use mathlib.Core.List.{List}
 use lib.Dec.{eqb, ltb}
 use borrow.Author.Tests.{ltb-true, lt-ltb}
 use Rattle.base.specs.Choice.{pick}
-use Rattle.base.specs.FirstLaws.{first-at}
+use Rattle.base.proofs.FirstLaws.{first-at}
 use Rattle.base.specs.Range.{every}
-use Rattle.base.specs.RangeLaws.{and_left, and_right}
+use Rattle.base.proofs.RangeLaws.{and_left, and_right}
 use Rattle.profile.specs.Profile.{bank_count}
 use Rattle.lookup.specs.Lookup.{bank_named, remember_of}
 use Rattle.session.specs.Session.{scene_to}

@@ -6,7 +6,7 @@ use native.Mathlib.Numerals.{add-one}
 use native.Mathlib.Omega.{arith}
 use lib.Ieee.{Float}
 use Rattle.float.specs.Leaf.{due_of}
-use Rattle.float.specs.LeafLaws.{due-most}
+use Rattle.float.proofs.LeafLaws.{due-most}
 use Rattle.drivers.specs.Talk.{Talk}
 use Rattle.session.specs.declared.Flash.{Flash}
 use Rattle.session.specs.declared.Lamps.{Lamps}

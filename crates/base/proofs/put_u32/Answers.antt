@@ -1,5 +1,5 @@
 use Rattle.std.proofs.Common.{◌≡◌, ◌+◌, ◌-◌, arith, rules}
-use Rattle.base.specs.WordsLaws.{part_put32}
+use Rattle.base.proofs.WordsLaws.{part_put32}
 use Rattle.base.proofs.put_u32.Goals as goal
 
 pub returns : goal.returns

@@ -2,7 +2,7 @@ use native.Mathlib.Omega.{arith}
 use mathlib.Core.Path.{refl, subst}
 use Rattle.after.specs.After.{Fades}
 use borrow.Author.Rules.{rules}
-use Rattle.session.specs.SessionLaws.{line_room}
+use Rattle.session.proofs.SessionLaws.{line_room}
 use Rattle.bridge.proofs.Fit.{bank_low, line_is, line_few, live_is}
 use Rattle.bridge.proofs.HandLaws.{in_control}
 use Rattle.bridge.proofs.in_control.Goals as goal

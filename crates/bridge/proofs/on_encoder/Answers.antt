@@ -8,7 +8,7 @@ use lib.ListN.{length}
 use mir.Syntax.{w32}
 use mir.Val.{SFits, to_z, of_z}
 use mir.ValLaws.{to_z-of_z}
-use Rattle.base.specs.KeyedLaws.{long}
+use Rattle.base.proofs.KeyedLaws.{long}
 use Rattle.lookup.specs.Lookup.{dest_at}
 use Rattle.hands.specs.Sums.{SumsFit}
 use Rattle.hands.specs.Declined.{number_of, refusal_of}

@@ -4,7 +4,7 @@ use lib.IntN.{ℤ}
 use mir.Syntax.{w32}
 use mir.ValLaws.{to_z-of_z}
 use Rattle.std.proofs.Common.{Some}
-use Rattle.base.specs.RangeLaws.{or_left_no}
+use Rattle.base.proofs.RangeLaws.{or_left_no}
 use Rattle.definition.specs.Faders.{in_range}
 use Rattle.bridge.specs.Bridge.{ran, Turns}
 use native.Mathlib.Omega.{arith}

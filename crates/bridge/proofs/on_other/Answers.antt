@@ -2,7 +2,7 @@ use mathlib.Core.Path.{refl, sym, ap, ◌∙◌}
 use borrow.Author.Rules.{rules}
 use Rattle.lookup.specs.View.{view_of}
 use Rattle.definition.specs.Step.{seen}
-use Rattle.bounds.specs.Whole.{well_seen}
+use Rattle.bounds.proofs.Offered.{well_seen}
 use Rattle.bridge.proofs.Fit.{bank_low, line_few, places}
 use Rattle.bridge.proofs.StepLaws.{declines, step_declines}
 use Rattle.bridge.proofs.TalkLaws.{eleven_if, talked_undone, talked_done}

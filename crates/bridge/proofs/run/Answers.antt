@@ -4,7 +4,7 @@ use mathlib.Core.List.{List}
 use native.Mathlib.Omega.{arith}
 use borrow.Author.Tests.{ne_eqb}
 use lib.ListN.{length}
-use Rattle.bounds.specs.Channels.{read_low}
+use Rattle.bounds.proofs.Channels.{read_low}
 use Rattle.session.specs.declared.Session.{Session}
 use Rattle.definition.specs.Whole.{whole}
 use Rattle.delivery.specs.Delivery.{Refused, told}

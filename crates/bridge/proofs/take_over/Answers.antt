@@ -1,9 +1,9 @@
 use native.Mathlib.Omega.{arith}
 use mathlib.Core.Path.{◌≡◌, subst}
 use Rattle.after.specs.After.{Fades}
-use Rattle.base.specs.KeyedLaws.{long}
+use Rattle.base.proofs.KeyedLaws.{long}
 use lib.ListN.{length}
-use Rattle.session.specs.SessionLaws.{line_room}
+use Rattle.session.proofs.SessionLaws.{line_room}
 use Rattle.bridge.proofs.Fit.{bank_low, line_is, line_few}
 use Rattle.bridge.proofs.HandLaws.{asked_undone, asked_done}
 use Rattle.bridge.proofs.take_over.Goals as goal

@@ -4,9 +4,9 @@ use mathlib.Core.Bool.{true}
 use mathlib.Core.List.{List}
 use native.Mathlib.Omega.{arith}
 use lib.ListN.{length}
-use Rattle.base.specs.KeyedLaws.{long}
+use Rattle.base.proofs.KeyedLaws.{long}
 use Rattle.profile.specs.Profile.{verdict}
-use Rattle.profile.specs.Accepted.{few_banks}
+use Rattle.profile.proofs.Accepted.{few_banks}
 use Rattle.lookup.specs.View.{view_of}
 use Rattle.event.specs.declared.Timed.{Timed}
 use Rattle.session.specs.Session.{seen_silenced, targets_of}
@@ -16,7 +16,7 @@ use Rattle.session.specs.declared.Session.{Session}
 use Rattle.definition.specs.Shape.{well_shaped}
 use Rattle.definition.specs.Live.{is_due}
 use Rattle.definition.specs.Step.{seen, refusal}
-use Rattle.bounds.specs.Whole.{well_seen}
+use Rattle.bounds.proofs.Offered.{well_seen}
 use Rattle.rig.specs.declared.current.Current.{Current}
 use Rattle.after.specs.declared.Setting.{Setting}
 use Rattle.bridge.specs.Which.{press_in, bank_by, adds_by, runs}

@@ -1,6 +1,6 @@
 use Rattle.std.proofs.Common.{rules, ◌≡◌, true, Some}
 use Rattle.lookup.specs.Lookup.{named, or_absent}
-use Rattle.lookup.specs.NamedLaws.{its_name, is_there, or_absent_is}
+use Rattle.lookup.proofs.NamedLaws.{its_name, is_there, or_absent_is}
 use Rattle.drivers.specs.Talk.{next}
 use Rattle.definition.specs.Rig.{bank_driver, first_target}
 use Rattle.definition.specs.Buttons.{default_button}

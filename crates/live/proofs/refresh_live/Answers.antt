@@ -1,5 +1,5 @@
 use Rattle.std.proofs.Common.{sym, ◌∙◌}
-use Rattle.lookup.specs.NamedLaws.{its_name}
+use Rattle.lookup.proofs.NamedLaws.{its_name}
 use Rattle.rig.specs.Seen.{rig_in}
 use Rattle.live.proofs.Laws.{asks, no_driver, not_live}
 use Rattle.live.proofs.refresh_live.Goals as goal

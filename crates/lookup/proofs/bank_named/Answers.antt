@@ -1,8 +1,8 @@
 -- `lookup::bank_named` meets its contract. Assumes nothing.
 use Rattle.std.specs.Prelude.{eqb}
 use Rattle.std.proofs.Common.{rules, tests, arith}
-use Rattle.base.specs.StdLaws.{find_below}
-use Rattle.profile.specs.Accepted.{few_banks}
+use Rattle.base.proofs.StdLaws.{find_below}
+use Rattle.profile.proofs.Accepted.{few_banks}
 use Rattle.profile.specs.Profile.{bank_count}
 use Rattle.lookup.specs.Lookup.{bank_named, name_of}
 use Rattle.lookup.proofs.bank_named.Goals as goal

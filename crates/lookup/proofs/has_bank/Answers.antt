@@ -8,7 +8,7 @@ use Rattle.std.proofs.lemmas.Iterator.Consumers.{YieldsList-from_filter, nth_fro
 use Rattle.std.proofs.lemmas.List.Sums.{length-filter}
 use Rattle.std.proofs.lemmas.Option.{slice_get-get_or, slice_get_past}
 use Rattle.std.proofs.lemmas.Iterator.Adapters.{option_map_id}
-use Rattle.base.specs.StdLaws.{count_by-range}
+use Rattle.base.proofs.StdLaws.{count_by-range}
 use Rattle.profile.specs.Profile.{records, is_kind, kind_count}
 use Rattle.lookup.proofs.has_bank.Goals as goal
 

@@ -1,8 +1,8 @@
 -- `lookup::most_common` meets its contract. Assumes nothing.
 use Rattle.std.proofs.Common.{refl, ap, ◌∙◌, arith}
 use Rattle.lookup.specs.Lookup.{or_absent, named}
-use Rattle.lookup.specs.NamedLaws.{named_back}
-use Rattle.lookup.specs.CommonLaws.{leads_keep, leads_new, leads_done}
+use Rattle.lookup.proofs.NamedLaws.{named_back}
+use Rattle.lookup.proofs.CommonLaws.{leads_keep, leads_new, leads_done}
 use Rattle.lookup.proofs.most_common.Goals.{then-often-times, else-often-times}
 use Rattle.lookup.proofs.most_common.Goals as goal
 

@@ -1,7 +1,7 @@
 -- `lookup::most_common` meets its contract. Assumes nothing.
 use Rattle.lookup.specs.Lookup.{or_absent}
 use Rattle.std.proofs.Common.{ℕ, ◌<◌, ◌≡◌, Some}
-use Rattle.lookup.specs.CommonLaws.{Leads}
+use Rattle.lookup.proofs.CommonLaws.{Leads}
 use Rattle.lookup.proofs.most_common.Given as goal
 
 abbrev pub invariant-loop-driver : goal.invariant-loop-driver

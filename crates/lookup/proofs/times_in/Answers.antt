@@ -1,7 +1,7 @@
 -- `lookup::times_in` meets its contract. Assumes nothing.
 use Rattle.std.specs.Prelude.{◌≡◌, eqb, count_by}
 use Rattle.std.proofs.Common.{rules, ◌∙◌}
-use Rattle.base.specs.StdLaws.{count_by-count}
+use Rattle.base.proofs.StdLaws.{count_by-count}
 use Rattle.lookup.specs.Lookup.{times}
 use Rattle.lookup.proofs.times_in.Goals as goal
 

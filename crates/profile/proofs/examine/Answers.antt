@@ -1,6 +1,6 @@
 -- `profile::examine` meets its contract. Assumes nothing.
 use Rattle.std.proofs.Common.{rules, ◌≡◌, true, length, leb-true}
-use Rattle.base.specs.RangeLaws.{every-at}
+use Rattle.base.proofs.RangeLaws.{every-at}
 use Rattle.profile.specs.Profile.{size_ok}
 use Rattle.profile.proofs.examine.Goals as goal
 

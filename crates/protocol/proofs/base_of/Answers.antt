@@ -1,8 +1,8 @@
 use Rattle.std.proofs.Common.{rules, tests, ◌∙◌, ℕ, ◌-◌, Bool, ◌&&◌, leb, ltb, get_or}
 use Rattle.std.proofs.lemmas.Iterator.{YieldsList-from_slice}
 use Rattle.std.proofs.lemmas.Iterator.Search.{position_from_yields_List}
-use Rattle.base.specs.FirstLaws.{first_cong}
-use Rattle.base.specs.StdLaws.{position-first}
+use Rattle.base.proofs.FirstLaws.{first_cong}
+use Rattle.base.proofs.StdLaws.{position-first}
 use Rattle.protocol.specs.Protocol.{base_of, channel_bases, is_of_base}
 use Rattle.protocol.proofs.Laws.{below_eight}
 use Rattle.protocol.proofs.base_of.Goals as goal

@@ -1,7 +1,7 @@
 use Rattle.std.proofs.Common.{rules, tests, ◌∙◌, ◌==◌}
 use Rattle.std.proofs.lemmas.Iterator.{YieldsList-from_slice}
 use Rattle.std.proofs.lemmas.Iterator.Search.{position_from_yields_List}
-use Rattle.base.specs.StdLaws.{position-first}
+use Rattle.base.proofs.StdLaws.{position-first}
 use Rattle.protocol.specs.Protocol.{named_of, named}
 use Rattle.protocol.proofs.named_of.Goals as goal
 

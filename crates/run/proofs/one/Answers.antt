@@ -2,7 +2,7 @@
 use Rattle.std.proofs.Common.{◌∙◌}
 use Rattle.std.proofs.Math.Path.{ap}
 use Rattle.definition.specs.Step.{Stepped}
-use Rattle.bridge.specs.CountsLaws.{delivers_used}
+use Rattle.bridge.proofs.CountsLaws.{delivers_used}
 use Rattle.bridge.proofs.ShapedLaws.{stays-shaped}
 use Rattle.printing.proofs.Puts.{put_as}
 use Rattle.run.specs.Said.{event_text}

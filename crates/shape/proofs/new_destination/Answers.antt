@@ -1,7 +1,7 @@
 use Rattle.std.proofs.Common.{◌∙◌, ap, take, position, is_some, not, Bool, true, false, refl, ◌≡◌}
 use Rattle.lookup.specs.Lookup.{dest_at}
 use Rattle.session.specs.Session.{wires_to}
-use Rattle.session.specs.SessionLaws.{each_in_file}
+use Rattle.session.proofs.SessionLaws.{each_in_file}
 use Rattle.shape.proofs.Laws.{all-take, none-found}
 use Rattle.shape.proofs.new_destination.Goals as goal
 

@@ -1,5 +1,5 @@
 use Rattle.std.proofs.Common.{◌∙◌, length, refl, rules, tests}
-use Rattle.base.specs.StdLaws.{all_below}
+use Rattle.base.proofs.StdLaws.{all_below}
 use Rattle.definition.specs.Shape.{same_wire}
 use Rattle.shape.proofs.Laws.{New, each-new}
 use Rattle.shape.proofs.no_destination_twice.Goals as goal

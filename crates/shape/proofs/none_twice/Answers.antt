@@ -1,5 +1,5 @@
 use Rattle.std.proofs.Common.{◌∙◌, length, refl, rules, tests}
-use Rattle.base.specs.StdLaws.{all_below}
+use Rattle.base.proofs.StdLaws.{all_below}
 use Rattle.shape.proofs.Laws.{New-in, each-new-in}
 use Rattle.shape.proofs.none_twice.Goals as goal
 

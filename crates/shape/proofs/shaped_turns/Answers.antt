@@ -1,7 +1,7 @@
 use Rattle.std.proofs.Common.{◌≡◌, ◌∙◌, sym, ap, take, length, true, false, refl}
 use Rattle.std.specs.List.{list_all}
 use Rattle.base.specs.Keyed.{no_twice}
-use Rattle.base.specs.KeyedLaws as laws
+use Rattle.base.proofs.KeyedLaws as laws
 use Rattle.session.specs.Session.{is_encoder}
 use Rattle.definition.specs.Faders.{in_range}
 use Rattle.definition.specs.Shape.{same_wire}

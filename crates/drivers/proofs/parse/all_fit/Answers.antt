@@ -1,5 +1,5 @@
 use Rattle.std.proofs.Common.{rules, refl, cond}
-use Rattle.base.specs.StdLaws.{all_below}
+use Rattle.base.proofs.StdLaws.{all_below}
 use Rattle.drivers.specs.Answers.{item_fits, live_fits}
 use Rattle.drivers.proofs.Laws.{all_cond}
 use Rattle.drivers.proofs.parse.all_fit.Goals as goal

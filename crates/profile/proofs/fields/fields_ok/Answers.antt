@@ -1,6 +1,6 @@
 -- `profile::fields::fields_ok` meets its contract. Assumes nothing.
 use Rattle.std.proofs.Common.{rules}
-use Rattle.base.specs.StdLaws.{all_below}
+use Rattle.base.proofs.StdLaws.{all_below}
 use Rattle.profile.specs.Profile.{fields_ok, record_ok}
 use Rattle.profile.proofs.fields.fields_ok.Goals as goal
 

@@ -2,7 +2,8 @@
 use Rattle.std.proofs.Common.{arith, rules, ◌≡◌, true, false}
 use Rattle.std.proofs.Math.Bool.{and_assoc}
 use Rattle.profile.specs.Profile.{byte_at}
-use Rattle.profile.specs.Limits.{counted, row_at, tally_start, tally_le, tally_skip, tally_add, tally_limits}
+use Rattle.profile.specs.Limits.{counted, row_at}
+use Rattle.profile.proofs.LimitLaws.{tally_start, tally_le, tally_skip, tally_add, tally_limits}
 use Rattle.profile.proofs.limits.limits_ok.Goals as goal
 use Rattle.profile.proofs.limits.limits_ok.Goals.{then-is_counted, else-is_counted}
 

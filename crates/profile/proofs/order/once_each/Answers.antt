@@ -1,8 +1,9 @@
 -- `profile::order::once_each` meets its contract. Assumes nothing.
 use Rattle.std.proofs.Common.{arith, rules, ◌≡◌, true, false, sym, ◌∙◌}
-use Rattle.base.specs.RangeLaws.{all_done, all_stop}
+use Rattle.base.proofs.RangeLaws.{all_done, all_stop}
 use Rattle.profile.specs.Profile.{byte_at, control, once_each}
-use Rattle.profile.specs.Order.{slot_at, once_start, once_skip, once_mark, once_found}
+use Rattle.profile.specs.Order.{slot_at}
+use Rattle.profile.proofs.OrderLaws.{once_start, once_skip, once_mark, once_found}
 use Rattle.profile.proofs.Behind.{once_past}
 use Rattle.profile.proofs.order.once_each.Goals as goal
 use Rattle.profile.proofs.order.once_each.Goals.{then-is_control+else-seen-slot, else-is_control}

@@ -1,6 +1,6 @@
 -- `profile::record::count_kind` meets its contract. Assumes nothing.
 use Rattle.std.proofs.Common.{rules, ◌∙◌}
-use Rattle.base.specs.StdLaws.{count_below}
+use Rattle.base.proofs.StdLaws.{count_below}
 use Rattle.profile.specs.Profile.{is_kind, kind_count}
 use Rattle.profile.proofs.record.count_kind.Goals as goal
 

@@ -1,8 +1,8 @@
 use Rattle.std.proofs.Common.{◌≡◌, ◌∙◌, ◌<◌, ◌≤◌, true, sym, length, position, None, Option, ℕ, arith}
 use Rattle.base.specs.Keyed.{at}
-use Rattle.base.specs.KeyedLaws as laws
+use Rattle.base.proofs.KeyedLaws as laws
 use Rattle.session.proofs.Laws.{seen_roomy}
-use Rattle.session.specs.SearchLaws.{place-in, no-place-in}
+use Rattle.session.proofs.SearchLaws.{place-in, no-place-in}
 use Rattle.session.specs.Session.{is_channel, move_of, no_move, place_move, has_place, seen_line}
 use Rattle.session.specs.declared.Line.{Line}
 use Rattle.session.proofs.Line.place.Goals as goal

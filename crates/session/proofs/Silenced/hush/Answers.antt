@@ -1,7 +1,7 @@
 use Rattle.std.proofs.Common.{◌≡◌, ◌∙◌, ◌<◌, ◌≤◌, ap, take, length, position, unwrap_or, Option, ℕ, List, Bool, Float, true, false, ltb, ltb-true, ltb-false, set, max, ◌+◌, refl, arith}
 use Rattle.base.specs.Keyed.{at}
-use Rattle.base.specs.KeyedLaws as laws
-use Rattle.session.specs.SearchLaws.{place-or-end}
+use Rattle.base.proofs.KeyedLaws as laws
+use Rattle.session.proofs.SearchLaws.{place-or-end}
 use Rattle.session.specs.Session.{same_target, hush, hushed_up_to, has_room}
 use Rattle.session.proofs.Laws.{place-within, hushed_there, hushed_behind}
 use Rattle.session.proofs.Silenced.hush.Goals as goal

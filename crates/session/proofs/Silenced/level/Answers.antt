@@ -1,6 +1,6 @@
 use Rattle.std.proofs.Common.{◌≡◌, ◌∙◌, sym, length, arith}
-use Rattle.base.specs.KeyedLaws as laws
-use Rattle.session.specs.SearchLaws.{place-in, no-place-in}
+use Rattle.base.proofs.KeyedLaws as laws
+use Rattle.session.proofs.SearchLaws.{place-in, no-place-in}
 use Rattle.session.specs.Session.{same_target}
 use Rattle.session.proofs.Laws.{level_there, level_missing}
 use Rattle.session.proofs.Silenced.level.Goals as goal

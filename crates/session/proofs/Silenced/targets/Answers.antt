@@ -1,6 +1,6 @@
 use Rattle.std.proofs.Common.{◌≡◌, sym, length, arith}
-use Rattle.base.specs.KeyedLaws as laws
-use Rattle.session.specs.SessionLaws.{targets_seen}
+use Rattle.base.proofs.KeyedLaws as laws
+use Rattle.session.proofs.SessionLaws.{targets_seen}
 use Rattle.session.proofs.Silenced.targets.Goals as goal
 
 pub returns-clause-seen : goal.returns-clause-seen

@@ -1,6 +1,6 @@
 use Rattle.std.proofs.Common.{refl, rules, arith}
 use borrow.Author.Tests.{eq-eqb, ne_eqb}
-use Rattle.base.specs.KeyedLaws as laws
+use Rattle.base.proofs.KeyedLaws as laws
 use Rattle.session.proofs.Laws.{closing_none, closing_yes, closing_no}
 use Rattle.session.proofs.Silenced.unhush.Goals as goal
 use Rattle.session.proofs.Silenced.unhush.Goals.{then-self-i, else-self-i}

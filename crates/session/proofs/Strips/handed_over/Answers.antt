@@ -1,11 +1,11 @@
 use Rattle.std.proofs.Common.{arith, sym, ap, ◌≡◌, length, Some, [], get_or, take, false, ◌&&◌, ltb, ltb-true, ◌∙◌, length-set, take_all}
 use mathlib.Core.List.{map}
-use Rattle.base.specs.RangeLaws.{and_left, and_right}
+use Rattle.base.proofs.RangeLaws.{and_left, and_right}
 use Rattle.base.specs.Keyed.{keep}
-use Rattle.base.specs.KeyedLaws as laws
+use Rattle.base.proofs.KeyedLaws as laws
 use Rattle.drivers.specs.declared.LiveFader.{LiveFader}
 use Rattle.session.proofs.Laws.{first_yes, first_no}
-use Rattle.session.specs.SessionLaws.{is_known}
+use Rattle.session.proofs.SessionLaws.{is_known}
 use Rattle.session.specs.Session.{seen_strips, strips_or, strip_of, strips_of, on_surface}
 use Rattle.session.proofs.Strips.handed_over.Goals as goal
 use Rattle.session.proofs.Strips.handed_over.Goals.{then-on_surface-t, else-on_surface-t}

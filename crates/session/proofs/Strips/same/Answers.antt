@@ -1,5 +1,5 @@
 use Rattle.std.proofs.Common.{◌+◌, refl, rules, tests}
-use Rattle.base.specs.StdLaws.{all_below}
+use Rattle.base.proofs.StdLaws.{all_below}
 use Rattle.session.specs.Session.{same_strips, same_at, strip_at, strips_or, seen_strips}
 use Rattle.session.proofs.Strips.same.Goals as goal
 

@@ -1,11 +1,11 @@
 use Rattle.std.proofs.Common.{◌≡◌, ◌∙◌, ◌<◌, ◌+ℤ◌, ap, sym, take, length, position, None, Option, ℕ, ℤ, List, arith, get_or, pos, w32, rules}
 use mir.ValLaws.{to_z-of_z}
 use Rattle.base.specs.Keyed.{at}
-use Rattle.base.specs.KeyedLaws as laws
+use Rattle.base.proofs.KeyedLaws as laws
 use Rattle.lookup.specs.Lookup.{dest_at}
 use Rattle.lookup.specs.declared.Destination.{Destination}
 use Rattle.session.specs.Session.{wires_to, RoomToTurn}
-use Rattle.session.specs.SearchLaws.{place-in, no-place-in}
+use Rattle.session.proofs.SearchLaws.{place-in, no-place-in}
 use Rattle.session.specs.declared.Turns.{Turns}
 use Rattle.session.proofs.Laws.{sum_there, at-end, sum_behind, encoders_behind}
 use Rattle.session.proofs.Turns.turn.Goals as goal

@@ -1,4 +1,4 @@
-use Rattle.session.specs.SessionLaws.{each_in_file}
+use Rattle.session.proofs.SessionLaws.{each_in_file}
 use Rattle.std.proofs.iter.Serving.{serving}
 use Rattle.session.proofs.desk.find_turn.Goals as goal
 

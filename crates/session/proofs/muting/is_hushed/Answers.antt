@@ -1,5 +1,5 @@
 use Rattle.std.proofs.Common.{◌∙◌}
-use Rattle.base.specs.StdLaws.{list_any-any_of}
+use Rattle.base.proofs.StdLaws.{list_any-any_of}
 use Rattle.session.specs.Session.{is_hushed, same_target}
 use Rattle.session.proofs.muting.is_hushed.Goals as goal
 

@@ -1,5 +1,5 @@
 use Rattle.drivers.proofs.Laws.{ask_stopped, ask_full, ask-waits, ask-declined, ask-made, listing, answer_part, items-part, part-all}
-use Rattle.drivers.specs.AnswersLaws.{answer_there, part_long}
+use Rattle.drivers.proofs.AnswersLaws.{answer_there, part_long}
 use lib.ListN.{length-drop}
 use mathlib.Core.Path.{sym, ◌∙◌}
 use native.Mathlib.Omega.{arith}

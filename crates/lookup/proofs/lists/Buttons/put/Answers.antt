@@ -4,7 +4,7 @@ use Rattle.std.specs.List.{position}
 use Rattle.std.proofs.Common.{rules, tests, sym, ◌∙◌, arith}
 use Rattle.std.proofs.lemmas.Iterator.{YieldsList-from_slice}
 use Rattle.std.proofs.lemmas.Iterator.Search.{position_from_yields_List}
-use Rattle.base.specs.KeyedLaws as laws
+use Rattle.base.proofs.KeyedLaws as laws
 use Rattle.lookup.specs.Lookup.{of_kind}
 use Rattle.lookup.proofs.ButtonLaws.{put_in, put_out}
 use Rattle.lookup.proofs.lists.Buttons.put.Goals as goal

@@ -1,6 +1,6 @@
 -- `lookup::walk::UpTo::next` meets its contract. Assumes nothing.
 use Rattle.std.proofs.Common.{sym, ◌∙◌, arith}
-use Rattle.base.specs.FirstLaws.{first_more}
+use Rattle.base.proofs.FirstLaws.{first_more}
 use Rattle.lookup.proofs.Rows.{rows_end, rows_past, not_past, rows_next, progress}
 use Rattle.lookup.proofs.walk.UpToIterator.next.Goals as goal
 

@@ -2,7 +2,7 @@
 use Rattle.std.proofs.Common.{rules, arith, ap, ◌∙◌, ◌+◌, ◌*◌, ℕ, get_or, ◌&&◌, eqb}
 use Rattle.std.proofs.lemmas.Iterator.{YieldsList-from_slice}
 use Rattle.std.proofs.lemmas.Iterator.Consumers.{fold_from_yields_List}
-use Rattle.base.specs.RangeLaws.{all_cong}
+use Rattle.base.proofs.RangeLaws.{all_cong}
 use Rattle.profile.proofs.Chains.{fold-all}
 use Rattle.profile.proofs.record.Record.is_zeros.Goals as goal
 

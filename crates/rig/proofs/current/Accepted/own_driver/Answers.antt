@@ -1,5 +1,5 @@
 use Rattle.std.proofs.Common.{sym, ◌∙◌, arith}
-use Rattle.lookup.specs.Known.{known-device}
+use Rattle.lookup.proofs.Found.{known-device}
 use Rattle.rig.proofs.Laws.{low_driver}
 use Rattle.rig.proofs.current.Accepted.own_driver.Goals as goal
 

@@ -1,0 +1,9 @@
+pub mod TailLaws
+pub mod BesideLaws
+pub mod RangeLaws
+pub mod FirstLaws
+pub mod Tables
+pub mod KeyedLaws
+pub mod Pigeon
+pub mod WordsLaws
+pub mod StdLaws

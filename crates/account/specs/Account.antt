@@ -31,6 +31,8 @@ use Rattle.definition.specs.Faders.{is_zero}
 use Rattle.definition.specs.Banks.{next_bank}
 use Rattle.definition.specs.Buttons.{or_first}
 use Rattle.definition.specs.Step.{Site, Kept, fresh_kept, Ended, done, refused, waiting, Stepped, stepped, step}
+use Rattle.protocol.specs.ButtonKinds as kinds
+use Rattle.drivers.specs.CallKinds.{open_kind, read_kind, write_kind, load_kind}
 
 -- ── calls and their answers ──
 
@@ -47,7 +49,7 @@ opened_by true driver o = set o driver true
 opened_by false driver o = o
 
 abbrev pub opened : Asked → List Bool → List Bool
-opened x o = opened_by (eqb x.call.kind 0 && is_done (answer_in x)) x.call.driver o
+opened x o = opened_by (eqb x.call.kind open_kind && is_done (answer_in x)) x.call.driver o
 
 unfoldable pub opens : List Asked → List Bool → List Bool
 opens [] o = o
@@ -55,7 +57,7 @@ opens (x ∷ l) o = opens l (opened x o)
 
 -- a scene was loaded: a load was answered done
 abbrev pub is_load : Asked → Bool
-is_load x = eqb x.call.kind 8 && is_done (answer_in x)
+is_load x = eqb x.call.kind load_kind && is_done (answer_in x)
 
 unfoldable pub loads : List Asked → Bool
 loads [] = false
@@ -336,9 +338,9 @@ steps right banks bank = not (eqb (next_bank right banks bank) bank) && not (leb
 -- the press selects a bank: kinds 5 and 9 step right, 4 and 8 left, and 3 jumps where the bank's `select` says so
 unfoldable pub selects : View → Site → ℕ → ℕ → Bool
 selects v w kind ch =
-    pick (eqb kind 5 || eqb kind 9) (steps true v.banks w.bank)
-    (pick (eqb kind 4 || eqb kind 8) (steps false v.banks w.bank)
-    (pick (eqb kind 3) ((v.here w.bank).select && not (leb v.banks ch)) false))
+    pick (eqb kind kinds.bank_right || eqb kind kinds.arrow_down) (steps true v.banks w.bank)
+    (pick (eqb kind kinds.bank_left || eqb kind kinds.arrow_up) (steps false v.banks w.bank)
+    (pick (eqb kind kinds.select) ((v.here w.bank).select && not (leb v.banks ch)) false))
 
 -- "Bank selection and a loaded scene clear all marks"
 abbrev pub book_press : Bool → Account → Account
@@ -497,7 +499,7 @@ ticks (x ∷ xs) = tick_at x ++ ticks xs
 abbrev pub other_in : Input → List Asked → List Asked
 other_in (input.Midi (event.Fader ch x)) l = l
 other_in (input.Midi (event.Encoder ch n)) l = l
-other_in (input.Midi (event.Button b)) l = pick (b.pressed && (eqb (kind_of b.note) 2 || eqb (kind_of b.note) 1)) [] l
+other_in (input.Midi (event.Button b)) l = pick (b.pressed && (eqb (kind_of b.note) kinds.mute || eqb (kind_of b.note) kinds.solo)) [] l
 other_in (input.Midi event.Other) l = l
 other_in input.Tick l = []
 other_in input.PushState l = l
@@ -516,10 +518,10 @@ others (x ∷ xs) = other_at x ++ others xs
 
 -- "An open carries its following use's name"
 abbrev pub open_of : Call → Call
-open_of c = plain_call 0 c.driver c.name 0
+open_of c = plain_call open_kind c.driver c.name 0
 
 abbrev pub reading_of : Destination → Call
-reading_of d = plain_call 1 d.driver d.target 0
+reading_of d = plain_call read_kind d.driver d.target 0
 
 -- "the write (driver, target and level in its range, written as in Call)"
 abbrev pub writing : Destination → Float → Call
@@ -562,7 +564,7 @@ pub data Nudges : List Bool → List Turn → List Asked → Type 0 where
       Nudges o (e ∷ es) (m ++ (k ++ l))
 
 abbrev pub not_write : ℕ → Bool
-not_write kind = not (eqb kind 2)
+not_write kind = not (eqb kind write_kind)
 
 -- each call's kind passes
 pub data Only (K : ℕ → Bool) : List Asked → Type 0 where

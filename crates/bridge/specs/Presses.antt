@@ -16,6 +16,7 @@ use Rattle.surface.specs.declared.panel.Panel.{Panel}
 use Rattle.rig.specs.Seen.{rig_in}
 use Rattle.rig.specs.declared.current.Current.{Current}
 use Rattle.bridge.specs.declared.buttons.Pressed as declared
+use Rattle.protocol.specs.ButtonKinds as kinds
 
 -- ── the bank after a press ──
 
@@ -26,9 +27,9 @@ selected_by p bank ch = pick (select_of p bank && ltb ch (bank_count p)) ch bank
 -- by the kind of the note: the arrows of the banks, a selection, and else the bank stays
 unfoldable pub bank_after : List ℕ → ℕ → ℕ → ℕ
 bank_after p bank note =
-    pick (eqb (kind_of note) 5 || eqb (kind_of note) 9) (next_bank true (bank_count p) bank)
-    (pick (eqb (kind_of note) 4 || eqb (kind_of note) 8) (next_bank false (bank_count p) bank)
-    (pick (eqb (kind_of note) 3) (selected_by p bank (or_first (channel_of note))) bank))
+    pick (eqb (kind_of note) kinds.bank_right || eqb (kind_of note) kinds.arrow_down) (next_bank true (bank_count p) bank)
+    (pick (eqb (kind_of note) kinds.bank_left || eqb (kind_of note) kinds.arrow_up) (next_bank false (bank_count p) bank)
+    (pick (eqb (kind_of note) kinds.select) (selected_by p bank (or_first (channel_of note))) bank))
 
 -- ── what a press is handed, and what it leaves ──
 
@@ -63,5 +64,5 @@ Presses f here there l s moves now t x m k u =
 -- the targets that a press adds to those silenced, by its note
 unfoldable pub added_of : Current → Lamps → ℕ → List ℕ → List ℕ
 added_of here l note ts =
-    pick (eqb (kind_of note) 2) (added_by_mute (rig_in here) (or_first (channel_of note) + 1) ts)
-    (pick (eqb (kind_of note) 1) (added_by_solo (rig_in here) (or_first (channel_of note) + 1) l ts) [])
+    pick (eqb (kind_of note) kinds.mute) (added_by_mute (rig_in here) (or_first (channel_of note) + 1) ts)
+    (pick (eqb (kind_of note) kinds.solo) (added_by_solo (rig_in here) (or_first (channel_of note) + 1) l ts) [])

@@ -12,6 +12,7 @@ use Rattle.definition.specs.Banks.{Selected, select_bank, step_bank}
 use Rattle.definition.specs.Scenes.{Paged, step_scene, scene}
 use Rattle.definition.specs.Muting.{mute, solo, added_by_solo, added_by_mute}
 use Rattle.lookup.specs.declared.Command.{Command}
+use Rattle.protocol.specs.ButtonKinds as kinds
 
 -- what a press leaves. Where a bank was selected or a scene loaded, `moved`, "clear all marks", and the live bank is due
 pub record Pressed : Type 0 where
@@ -135,14 +136,14 @@ or_first None = 0
 -- by kind: 7 and 6 arrows right and left, 5 and 9 bank right and arrow down, 4 and 8 bank left and arrow up, 2 mute, 1 solo, 0 rec, 3 select
 unfoldable pub press_of : ℕ → ℕ → Press → Act Pressed
 press_of kind ch p =
-    pick (eqb kind 7) (page true p)
-    (pick (eqb kind 6) (page false p)
-    (pick (eqb kind 5 || eqb kind 9) (walk true p)
-    (pick (eqb kind 4 || eqb kind 8) (walk false p)
-    (pick (eqb kind 2) (mute_as (ch + 1) p)
-    (pick (eqb kind 1) (solo_as (ch + 1) p)
-    (pick (eqb kind 0) (rec ch p)
-    (pick (eqb kind 3) (select_as p.rig.here.part.select ch p)
+    pick (eqb kind kinds.arrow_right) (page true p)
+    (pick (eqb kind kinds.arrow_left) (page false p)
+    (pick (eqb kind kinds.bank_right || eqb kind kinds.arrow_down) (walk true p)
+    (pick (eqb kind kinds.bank_left || eqb kind kinds.arrow_up) (walk false p)
+    (pick (eqb kind kinds.mute) (mute_as (ch + 1) p)
+    (pick (eqb kind kinds.solo) (solo_as (ch + 1) p)
+    (pick (eqb kind kinds.rec) (rec ch p)
+    (pick (eqb kind kinds.select) (select_as p.rig.here.part.select ch p)
     (command kind p))))))))
 
 -- `button`
@@ -152,5 +153,5 @@ button note p = press_of (kind_of note) (or_first (channel_of note)) p
 -- the targets that a press adds to those silenced: number 11 counts them with those held
 unfoldable pub added_by : ℕ → Press → List ℕ
 added_by note p =
-    pick (eqb (kind_of note) 2) (added_by_mute p.rig (or_first (channel_of note) + 1) (targets_of p.silenced))
-    (pick (eqb (kind_of note) 1) (added_by_solo p.rig (or_first (channel_of note) + 1) p.lamps (targets_of p.silenced)) [])
+    pick (eqb (kind_of note) kinds.mute) (added_by_mute p.rig (or_first (channel_of note) + 1) (targets_of p.silenced))
+    (pick (eqb (kind_of note) kinds.solo) (added_by_solo p.rig (or_first (channel_of note) + 1) p.lamps (targets_of p.silenced)) [])

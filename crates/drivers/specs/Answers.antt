@@ -8,6 +8,7 @@ use Rattle.base.specs.Words.{le16, le32, le64}
 use Rattle.drivers.specs.declared.Answer.{Answer}
 use Rattle.drivers.specs.declared.Answer.TheVariants as answer
 use Rattle.drivers.specs.declared.LiveFader.{LiveFader}
+use Rattle.drivers.specs.CallKinds.{read_kind, playing_kind, scenes_kind, current_scene_kind, live_faders_kind}
 
 -- ── lists: a record of kind 6 with the count at 2, then so many items of kind 7 ──
 
@@ -88,11 +89,11 @@ to_other k = pick (eqb k 1) answer.Done answer.Unfit
 
 abbrev pub answer_to : ℕ → ℕ → List ℕ → Answer
 answer_to kind k part =
-    pick (eqb kind 1) (to_read k part)
-    (pick (eqb kind 5) (to_playing k part)
-    (pick (eqb kind 6) (to_scenes k part)
-    (pick (eqb kind 7) (to_current k part)
-    (pick (eqb kind 9) (to_live k part) (to_other k)))))
+    pick (eqb kind read_kind) (to_read k part)
+    (pick (eqb kind playing_kind) (to_playing k part)
+    (pick (eqb kind scenes_kind) (to_scenes k part)
+    (pick (eqb kind current_scene_kind) (to_current k part)
+    (pick (eqb kind live_faders_kind) (to_live k part) (to_other k)))))
 
 -- the answer that stands first in a part that is not empty, to a call of the kind; "a record below 16 bytes .. is cut short"
 unfoldable pub answer_of : List ℕ → ℕ → Answer

@@ -4,3 +4,4 @@ pub mod Talk
 pub mod Shown
 pub mod Bytes
 pub mod Paired
+pub mod CallKinds

@@ -14,6 +14,7 @@ use Rattle.drivers.specs.declared.Answer.TheVariants as answer
 use Rattle.drivers.specs.declared.LiveFader.{LiveFader}
 use Rattle.drivers.specs.declared.line.Stop.{Stop}
 use Rattle.drivers.specs.declared.line.Stop.TheVariants.{Going, Waits, Declined, Overrun}
+use Rattle.drivers.specs.CallKinds.{open_kind, read_kind, toggle_kind, command_kind, playing_kind, scenes_kind, current_scene_kind, load_kind, live_faders_kind}
 
 infixl 1 ◌>>=◌
 -- the line goes on; it stops where an answer is missing ("waiting", with that call), where one is cut short or does not fit (14), or where a buffer is full,
@@ -128,7 +129,7 @@ opened_by false driver t = got false t
 
 abbrev pub open_if : Bool → ℕ → ℕ → Act Bool
 open_if true driver name t = got true t
-open_if false driver name t = next (ask (plain_call 0 driver name 0) t) (λ r. opened_by (is_done r.answer) driver)
+open_if false driver name t = next (ask (plain_call open_kind driver name 0) t) (λ r. opened_by (is_done r.answer) driver)
 
 -- "An unopened driver is opened before each use until it succeeds"; an open carries the name of its use
 unfoldable pub open_for : ℕ → ℕ → Act Bool
@@ -169,7 +170,7 @@ unfoldable pub use_done : Call → Act Bool
 use_done c = use_call c >>= λ r. got (is_done r.answer)
 
 unfoldable pub read_of : ℕ → ℕ → Act (Option Float)
-read_of driver name = use_call (plain_call 1 driver name 0) >>= λ r. got (level_of r.answer)
+read_of driver name = use_call (plain_call read_kind driver name 0) >>= λ r. got (level_of r.answer)
 
 unfoldable pub write_call : ℕ → ℕ → Float → Call
 write_call driver name value = record { kind = 2; driver = driver; name = written name; argument = 0; level = to_bits binary64 value }
@@ -178,14 +179,14 @@ unfoldable pub write_of : ℕ → ℕ → Float → Act Bool
 write_of driver name value = use_done (write_call driver name value)
 
 unfoldable pub toggle_of : ℕ → ℕ → Act Bool
-toggle_of driver name = use_done (plain_call 3 driver name 0)
+toggle_of driver name = use_done (plain_call toggle_kind driver name 0)
 
 unfoldable pub command_of : ℕ → ℕ → ℕ → Act Bool
-command_of driver name command = use_done (plain_call 4 driver name command)
+command_of driver name command = use_done (plain_call command_kind driver name command)
 
 -- "the lamp is lit if `playing` answered yes or no"
 unfoldable pub playing_of : ℕ → ℕ → Act Bool
-playing_of driver name = use_call (plain_call 5 driver name 0) >>= λ r. got (is_yes_no r.answer)
+playing_of driver name = use_call (plain_call playing_kind driver name 0) >>= λ r. got (is_yes_no r.answer)
 
 -- a list, and whether there was one
 pub record Listed (A : Type 0) : Type 0 where
@@ -196,16 +197,16 @@ abbrev pub name_of : LiveFader → ℕ
 name_of f = f.target
 
 unfoldable pub scenes_of : ℕ → Act (Listed ℕ)
-scenes_of driver = use_call (plain_call 6 driver 0 0) >>= λ r. got (record { ok = is_list r.answer; list = map name_of r.items })
+scenes_of driver = use_call (plain_call scenes_kind driver 0 0) >>= λ r. got (record { ok = is_list r.answer; list = map name_of r.items })
 
 unfoldable pub current_of : ℕ → Act (Option ℕ)
-current_of driver = use_call (plain_call 7 driver 0 0) >>= λ r. got (index_of r.answer)
+current_of driver = use_call (plain_call current_scene_kind driver 0 0) >>= λ r. got (index_of r.answer)
 
 unfoldable pub load_of : ℕ → ℕ → Act Bool
-load_of driver place = use_done (plain_call 8 driver 0 place)
+load_of driver place = use_done (plain_call load_kind driver 0 place)
 
 unfoldable pub live_of : ℕ → ℕ → Act (Listed LiveFader)
-live_of driver which = use_call (plain_call 9 driver 0 which) >>= λ r. got (record { ok = is_list r.answer; list = r.items })
+live_of driver which = use_call (plain_call live_faders_kind driver 0 which) >>= λ r. got (record { ok = is_list r.answer; list = r.items })
 
 -- ── a message ──
 

@@ -1,1 +1,2 @@
 pub mod Protocol
+pub mod ButtonKinds

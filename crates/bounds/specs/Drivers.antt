@@ -1,5 +1,6 @@
 -- Which drivers an event can use: those of the profile, of the live lists and of the encoders' sums. Definitions only.
 use Rattle.std.specs.Prelude.{ℕ, ◌≡◌, false, List, [], ◌∷◌, eqb, get_or, None, Option, Some}
+use Rattle.base.specs.Words.{absent}
 use Rattle.lookup.specs.View.{View}
 use Rattle.lookup.specs.declared.Entry.{Entry}
 use Rattle.session.specs.Session.{Turn, strips_or}
@@ -34,7 +35,7 @@ pub record MayView (D : ℕ → Type 0) (v : View) : Type 0 where
   pub first : D 0
   pub globals : (n : ℕ) → MayTo D (v.globals.fader n)
   pub faders : (b n : ℕ) → MayTo D ((v.here b).fader n)
-  pub devices : (b : ℕ) → eqb (v.here b).device 65535 ≡ false → D (v.here b).device
+  pub devices : (b : ℕ) → eqb (v.here b).device absent ≡ false → D (v.here b).device
   pub commands : MayAll D v.globals.transports
   pub own : (b : ℕ) → MayAll D (v.here b).transports
 

@@ -1,5 +1,6 @@
 -- What one event of the bridge promises: its outcome, the session after it, and each byte of both lent buffers. Definitions only.
 use Rattle.std.specs.Prelude.{ℕ, ◌+◌, ◌*◌, ◌≤◌, ◌≡◌, Bool, true, false, ◌&&◌, ◌||◌, not, List, map, eqb, ltb, ℤ, get_or, Float, None}
+use Rattle.definition.specs.Whole.{message_room, call_room}
 use Rattle.base.specs.Choice.{pick}
 use Rattle.protocol.specs.declared.Event.TheVariants as event
 use Rattle.profile.specs.Profile.{verdict}
@@ -68,7 +69,7 @@ ran r s = record { outcome = r.outcome; session = s; changed = r.changed }
 -- the lowest number from 1 to 9 that declines the event, or 0; number 7 is of the saved records alone
 abbrev pub declined_of : List ℕ → Session → ℕ → ℕ → ℕ
 declined_of p s messages calls =
-    pick (eqb (verdict p) 0) (pick (well_shaped p s) (pick (ltb messages 306 || ltb calls 5392) 9 0) 8) (verdict p)
+    pick (eqb (verdict p) 0) (pick (well_shaped p s) (pick (ltb messages message_room || ltb calls call_room) 9 0) 8) (verdict p)
 
 -- the bank b of a profile, with its live faders
 pub record IsCurrent (p : List ℕ) (l : Live) (b : ℕ) (c : Current) : Type 0 where

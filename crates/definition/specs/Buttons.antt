@@ -1,5 +1,6 @@
 -- What a pressed button does: `button`, `default_button`, `run_command`. Definitions only.
 use Rattle.std.specs.Prelude.{ℕ, ◌+◌, List, [], Bool, true, false, ◌||◌, eqb, Float, None, Option, Some}
+use Rattle.base.specs.Words.{absent}
 use Rattle.base.specs.Choice.{pick}
 use Rattle.protocol.specs.Protocol.{kind_of, channel_of}
 use Rattle.lookup.specs.Lookup.{or_absent, transport_of, before}
@@ -33,7 +34,7 @@ offered true h driver command = None
 offered false h driver command = Some (record { driver = driver; target = or_absent (first_target h driver 16); command = command })
 
 abbrev pub offered_if : Bool → Rig → ℕ → ℕ → Act (Option Command)
-offered_if true r driver kind t = got (offered (eqb (r.button driver kind) 65535) r.here driver (r.button driver kind)) t
+offered_if true r driver kind t = got (offered (eqb (r.button driver kind) absent) r.here driver (r.button driver kind)) t
 offered_if false r driver kind t = got None t
 
 abbrev pub default_of : Bool → Rig → ℕ → ℕ → Act (Option Command)
@@ -42,7 +43,7 @@ default_of false r driver kind t = next (open_for driver 0 t) (λ ok. offered_if
 
 -- `default_button`: what the bank's driver says this button does; the driver is opened for it, and its buttons are no call
 unfoldable pub default_button : Rig → ℕ → Act (Option Command)
-default_button r kind = default_of (eqb (bank_driver r.here) 65535) r (bank_driver r.here) kind
+default_button r kind = default_of (eqb (bank_driver r.here) absent) r (bank_driver r.here) kind
 
 abbrev pub run_bound : Option Command → Talk → Talk
 run_bound (Some c) t = (command_of c.driver c.target c.command t).talk

@@ -2,6 +2,7 @@
 use Rattle.std.specs.Prelude.{ℕ, Bool, true, false, eqb, Float, None, Option, Some}
 use Rattle.std.specs.Float.{binary64}
 use Rattle.std.specs.Float.Ieee.{of_bits, le}
+use Rattle.base.specs.Words.{absent}
 use Rattle.base.specs.Choice.{pick}
 use Rattle.float.specs.Leaf.{f0, normalise, range_of}
 use Rattle.lookup.specs.declared.Destination.{Destination}
@@ -37,8 +38,8 @@ or_zero None = f0
 
 -- the target that silenced levels are kept by: "only the target counts, an absent one as 0"
 abbrev pub kept_by : Destination → ℕ
-kept_by d = pick (eqb d.target 65535) 0 d.target
+kept_by d = pick (eqb d.target absent) 0 d.target
 
 -- the destination has a mute parameter
 abbrev pub has_mute : Destination → Bool
-has_mute d = pick (eqb d.mute 65535) false true
+has_mute d = pick (eqb d.mute absent) false true

@@ -2,6 +2,7 @@
 use Rattle.std.specs.Prelude.{ℕ, List, Bool, true, false, ◌||◌, eqb, Float, None, Option, Some}
 use Rattle.std.specs.Float.{binary64}
 use Rattle.std.specs.Float.Ieee.{sub, le}
+use Rattle.base.specs.Words.{absent}
 use Rattle.float.specs.Leaf.{f1}
 use Rattle.drivers.specs.Talk.{Act, got, next, Listed, live_of}
 use Rattle.drivers.specs.declared.LiveFader.{LiveFader}
@@ -40,7 +41,7 @@ ask_if false known r x s t =
 
 -- `refresh_live`: a bank that is not live, or has no driver of its own, asks nobody
 unfoldable pub refresh_live : Option (List Strip) → Rig → Lamps → List ℕ → Act Refreshed
-refresh_live known r x s = ask_if (eqb r.here.part.live 65535 || eqb r.here.part.device 65535) known r x s
+refresh_live known r x s = ask_if (eqb r.here.part.live absent || eqb r.here.part.device absent) known r x s
 
 -- due right after a change, then every TRANSPORT_EVERY, 1.0 s
 abbrev pub is_due : Bool → Float → Float → Bool

@@ -1,6 +1,7 @@
 -- What a handler may know of the profile and of live lists: the settings, the globals, and the current bank. What another bank holds cannot matter to it.
 -- The section "state" of bridge.rs. Definitions only.
 use Rattle.std.specs.Prelude.{ℕ, zero, suc, ◌+◌, List, [], ◌∷◌, ◌++◌, Bool, true, false, eqb, get_or, None, Option, Some}
+use Rattle.base.specs.Words.{absent}
 use Rattle.base.specs.Choice.{pick}
 use Rattle.lookup.specs.Lookup.{precede, most_common}
 use Rattle.lookup.specs.View.{Part, View}
@@ -43,7 +44,7 @@ with_strips l r =
 
 -- `faders`: what the bank itself wires a fader to. A live bank's are the ones that its driver handed over last
 unfoldable pub own_fader : Here → ℕ → Option Destination
-own_fader h n = pick (eqb h.part.live 65535) (h.part.fader n) (found_strip (strip_at n h.strips))
+own_fader h n = pick (eqb h.part.live absent) (h.part.fader n) (found_strip (strip_at n h.strips))
 
 -- `destination`: "Globals precede the bank."
 unfoldable pub destination : Rig → ℕ → Option Destination
@@ -70,7 +71,7 @@ bank_driver h = most_common (own_drivers h 16)
 
 -- `device`: the bank's own driver, else the one most of its faders use
 unfoldable pub device : Here → ℕ
-device h = pick (eqb h.part.device 65535) (bank_driver h) h.part.device
+device h = pick (eqb h.part.device absent) (bank_driver h) h.part.device
 
 abbrev pub is_of : ℕ → Option Destination → Bool
 is_of driver (Some d) = eqb d.driver driver
@@ -78,7 +79,7 @@ is_of driver None = false
 
 abbrev pub target_in : Option Destination → ℕ
 target_in (Some d) = d.target
-target_in None = 65535
+target_in None = absent
 
 abbrev pub or_target : Option ℕ → Bool → ℕ → Option ℕ
 or_target (Some t) b u = Some t

@@ -1,6 +1,7 @@
 -- Paging through the scenes of the current device, and loading them: `scene_names`, `step_scene`, `scene_on_device`, `load_scene_at`, `scene`.
 -- Definitions only.
 use Rattle.std.specs.Prelude.{ℕ, ◌+◌, ◌-◌, min, List, [], Bool, true, false, ◌||◌, eqb, leb, ltb, length, get_or, Float, None, Option, Some}
+use Rattle.base.specs.Words.{absent}
 use Rattle.base.specs.Choice.{pick}
 use Rattle.lookup.specs.Lookup.{position}
 use Rattle.drivers.specs.Talk.{Act, got, next, ◌>>=◌, scenes_of, current_of, load_of}
@@ -19,7 +20,7 @@ names_on false driver t = next (scenes_of driver t) (λ l. got l.list)
 
 abbrev pub names_if : Bool → Here → Act (List ℕ)
 names_if false h t = got h.part.scenes t
-names_if true h t = names_on (eqb (device h) 65535) (device h) t
+names_if true h t = names_on (eqb (device h) absent) (device h) t
 
 -- `scene_names`: the profile's list when it has one, otherwise whatever the device itself reports
 unfoldable pub scene_names : Here → Act (List ℕ)
@@ -29,7 +30,7 @@ scene_names h = names_if (eqb (length h.part.scenes) 0) h
 
 -- the name at place i of the device's own list, as a place in `names`
 abbrev pub place_of : List ℕ → ℕ → List ℕ → Option ℕ
-place_of names i all = pick (ltb i (length all)) (position (get_or all i 65535) names) None
+place_of names i all = pick (ltb i (length all)) (position (get_or all i absent) names) None
 
 abbrev pub on_list : Option ℕ → ℕ → List ℕ → Act (Option ℕ)
 on_list (Some i) driver names t = next (scenes_of driver t) (λ l. got (place_of names i l.list))
@@ -41,7 +42,7 @@ on_device_if false driver names t = next (current_of driver t) (λ i. on_list i 
 
 -- `scene_on_device`
 unfoldable pub scene_on_device : Here → List ℕ → Act (Option ℕ)
-scene_on_device h names = on_device_if (eqb (device h) 65535) (device h) names
+scene_on_device h names = on_device_if (eqb (device h) absent) (device h) names
 
 -- ── loading ──
 
@@ -84,12 +85,12 @@ loaded_if false r s i l t = got (loaded l false) t
 
 abbrev pub load_at_if : Bool → Rig → List ℕ → ℕ → Lamps → List ℕ → Act Loaded
 load_at_if true r s i l names t = got (loaded l false) t
-load_at_if false r s i l names t = next (load_on (device r.here) (get_or names i 65535) i t) (λ ok. loaded_if ok r s i l)
+load_at_if false r s i l names t = next (load_on (device r.here) (get_or names i absent) i t) (λ ok. loaded_if ok r s i l)
 
 -- `load_scene_at`
 unfoldable pub load_scene_at : Rig → List ℕ → ℕ → Lamps → Act Loaded
 load_scene_at r s i l =
-    scene_names r.here >>= λ names. load_at_if (eqb (device r.here) 65535 || leb (length names) i) r s i l names
+    scene_names r.here >>= λ names. load_at_if (eqb (device r.here) absent || leb (length names) i) r s i l names
 
 -- ── the arrows ──
 

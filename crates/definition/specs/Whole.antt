@@ -14,12 +14,19 @@ abbrev pub offered : Option Timed → List ℕ → Kept → List ℕ → Stepped
 offered (Some e) p k answers = step (view_of p) k e answers
 offered None p k answers = stepped (refused 10) k
 
+-- "message buffer below 306 bytes or call buffer below 5,392"
+abbrev pub message_room : ℕ
+message_room = 306
+
+abbrev pub call_room : ℕ
+call_room = 5392
+
 -- the profile p, the session s, the event's record, the answers, and the lengths of the message buffer and of the call buffer. A refused event leaves the
 -- session as it was
 unfoldable pub whole : List ℕ → Session → List ℕ → List ℕ → ℕ → ℕ → Stepped
 whole p s event answers messages calls =
     pick (eqb (verdict p) 0)
     (pick (well_shaped p s)
-    (pick (ltb messages 306 || ltb calls 5392) (stepped (refused 9) (seen p s)) (offered (read_of event) p (seen p s) answers))
+    (pick (ltb messages message_room || ltb calls call_room) (stepped (refused 9) (seen p s)) (offered (read_of event) p (seen p s) answers))
     (stepped (refused 8) (seen p s)))
     (stepped (refused (verdict p)) (seen p s))

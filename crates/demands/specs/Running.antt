@@ -3,7 +3,7 @@ use Rattle.std.specs.Prelude.{ℕ, ◌≡◌, ◌||◌, List, [], ◌∷◌, ltb
 use Rattle.base.specs.Choice.{pick}
 use Rattle.session.specs.declared.Session.{Session}
 use Rattle.event.specs.Event.{read_of}
-use Rattle.definition.specs.Whole.{whole}
+use Rattle.definition.specs.Whole.{whole, message_room, call_room}
 use Rattle.account.specs.Account.{Offer}
 use Rattle.bridge.specs.Bridge.{Delivers}
 use Rattle.bridge.specs.declared.Stepped.{Stepped}
@@ -32,7 +32,7 @@ Runs p s (x ∷ xs) z = Does p s x × Runs p x.result.session xs z
 -- what the account is offered, by the lengths of both buffers: an event whose buffers are too short, number 9, is offered in vain, as one that cannot be read is
 abbrev pub offer_with : List ℕ → List ℕ → ℕ → ℕ → Offer
 offer_with event answers messages calls =
-    record { event = pick (ltb messages 306 || ltb calls 5392) None (read_of event); answers = answers }
+    record { event = pick (ltb messages message_room || ltb calls call_room) None (read_of event); answers = answers }
 
 abbrev pub offer_of : Step → Offer
 offer_of x = offer_with x.event x.answers (length x.messages) (length x.calls)

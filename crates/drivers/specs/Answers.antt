@@ -4,7 +4,7 @@ use Rattle.std.specs.Float.{binary64}
 use Rattle.std.specs.Float.Ieee.{of_bits}
 use Rattle.base.specs.Choice.{pick}
 use Rattle.base.specs.Range.{all, bit}
-use Rattle.base.specs.Words.{le16, le32, le64}
+use Rattle.base.specs.Words.{le16, le32, le64, absent}
 use Rattle.drivers.specs.declared.Answer.{Answer}
 use Rattle.drivers.specs.declared.Answer.TheVariants as answer
 use Rattle.drivers.specs.declared.LiveFader.{LiveFader}
@@ -33,14 +33,14 @@ items_of (suc n) part = items_of n part ++ (item_at part n ∷ [])
 
 -- "In an item only mute may be 65535"; of a scene's item only the name is read
 abbrev pub item_fits : List ℕ → ℕ → Bool
-item_fits part i = eqb (get_or part (16 * i + 16) 0) 7 && not (eqb (le16 part (16 * i + 18)) 65535)
+item_fits part i = eqb (get_or part (16 * i + 16) 0) 7 && not (eqb (le16 part (16 * i + 18)) absent)
 
 -- "live .. numbers strictly rising"
 abbrev pub live_fits : List ℕ → ℕ → Bool
 live_fits part i =
     item_fits part i
-    && (not (eqb (le16 part (16 * i + 20)) 65535)
-    && (not (eqb (le16 part (16 * i + 22)) 65535)
+    && (not (eqb (le16 part (16 * i + 20)) absent)
+    && (not (eqb (le16 part (16 * i + 22)) absent)
     && (eqb i 0 || ltb (get_or part (16 * i + 1) 0) (get_or part (16 * i + 17) 0))))
 
 -- "a list without all its items, is cut short"

@@ -4,6 +4,7 @@
 use Rattle.std.specs.Prelude.{ℕ, ◌+◌, ◌*◌, List, [], ◌∷◌, ◌++◌, map, Bool, true, false, leb, eqb, length, get_or, set, drop, Float, None, Option, Some}
 use Rattle.std.specs.Float.{binary64}
 use Rattle.std.specs.Float.Ieee.{to_bits}
+use Rattle.base.specs.Words.{absent}
 use Rattle.base.specs.Choice.{pick}
 use Rattle.protocol.specs.Protocol.{bytes_of}
 use Rattle.protocol.specs.declared.Out.{Out}
@@ -118,7 +119,7 @@ opening driver t =
 
 -- "none or absent written 0"
 abbrev pub written : ℕ → ℕ
-written name = pick (eqb name 65535) 0 name
+written name = pick (eqb name absent) 0 name
 
 unfoldable pub plain_call : ℕ → ℕ → ℕ → ℕ → Call
 plain_call kind driver name argument = record { kind = kind; driver = driver; name = written name; argument = argument; level = 0 }

@@ -1,12 +1,13 @@
 -- What each lookup finds. Definitions only. A part is a bank, by its number, or the globals, 255.
 use Rattle.std.specs.Prelude.{ℕ, ◌≤◌, ◌≡◌, ◌⊎◌, Bool, ◌&&◌, List, [], ◌∷◌, eqb, leb, ltb, length, get_or, None, Option, Some}
 use Rattle.std.specs.Bool.{beq}
+use Rattle.base.specs.Words.{absent}
 use Rattle.base.specs.Choice.{pick}
 use Rattle.base.specs.Range.{all, count, every}
 use Rattle.base.specs.First.{first, until, or_else}
 use Rattle.base.specs.Keyed.{find, change}
 use Rattle.float.specs.Leaf.{same_range}
-use Rattle.profile.specs.Profile.{records, byte_at, half_at, double_at, is_kind, bank_count}
+use Rattle.profile.specs.Profile.{records, byte_at, half_at, double_at, is_kind, bank_count, in_globals}
 use Rattle.lookup.specs.declared.Destination.{Destination}
 use Rattle.lookup.specs.declared.Command.{Command}
 use Rattle.lookup.specs.declared.Entry.{Entry}
@@ -18,12 +19,12 @@ use Rattle.lookup.specs.Gather.{gather}
 
 -- "65535 is absent"
 abbrev pub or_absent : Option ℕ → ℕ
-or_absent None = 65535
+or_absent None = absent
 or_absent (Some n) = n
 
 -- the name, if it is one
 unfoldable pub named : ℕ → Option ℕ
-named n = pick (eqb n 65535) None (Some n)
+named n = pick (eqb n absent) None (Some n)
 
 -- ── records ──
 
@@ -73,13 +74,13 @@ bank_at s b = entry s 1 b 0
 
 -- name, own driver and `live`, 65535 where there is none
 abbrev pub name_of : List ℕ → ℕ → ℕ
-name_of s b = half_of s 4 65535 (bank_at s b)
+name_of s b = half_of s 4 absent (bank_at s b)
 
 abbrev pub device_of : List ℕ → ℕ → ℕ
-device_of s b = half_of s 6 65535 (bank_at s b)
+device_of s b = half_of s 6 absent (bank_at s b)
 
 abbrev pub live_of : List ℕ → ℕ → ℕ
-live_of s b = half_of s 8 65535 (bank_at s b)
+live_of s b = half_of s 8 absent (bank_at s b)
 
 -- what `rec` does: 0 absent, 1 scene, 2 other
 abbrev pub rec_of : List ℕ → ℕ → ℕ
@@ -133,7 +134,7 @@ precede None f = f
 
 -- the record of the encoder in reach: the globals' or else the bank's
 unfoldable pub encoder_place : List ℕ → ℕ → ℕ → Option ℕ
-encoder_place s bank number = or_else (entry s 3 255 number) (entry s 3 bank number)
+encoder_place s bank number = or_else (entry s 3 in_globals number) (entry s 3 bank number)
 
 -- Rust's `==` on every field, f64 by its own equality
 unfoldable pub same_dest : Destination → Destination → Bool
@@ -156,7 +157,7 @@ scenes_of s b = gather (reach s 4) (of_part s 4 b) (λ k. half_at s k 4)
 
 -- the first position of a name in a list of names
 unfoldable pub position : ℕ → List ℕ → Option ℕ
-position name l = first (length l) (λ i. eqb (get_or l i 65535) name)
+position name l = first (length l) (λ i. eqb (get_or l i absent) name)
 
 -- ── transport ──
 
@@ -200,7 +201,7 @@ merged (e ∷ globals) own = merged globals (place e own)
 
 -- the command of the first default button of the driver and the kind, 65535 if it has none
 abbrev pub button_of : List ℕ → ℕ → ℕ → ℕ
-button_of s driver kind = half_of s 4 65535 (entry s 6 driver kind)
+button_of s driver kind = half_of s 4 absent (entry s 6 driver kind)
 
 -- ── the driver that most faders have ──
 
@@ -214,11 +215,11 @@ top_at l i = all (length l) (λ j. leb (times (get_or l j 0) l) (times (get_or l
 
 abbrev pub value_at : List ℕ → Option ℕ → ℕ
 value_at l (Some i) = get_or l i 0
-value_at l None = 65535
+value_at l None = absent
 
 -- a driver's number, or that of none
 abbrev pub MayBeDriver : ℕ → Type 0
-MayBeDriver n = (n ≤ 255) ⊎ (n ≡ 65535)
+MayBeDriver n = (n ≤ 255) ⊎ (n ≡ absent)
 
 -- "most_common (first of the most frequent)"; 65535 if the list is empty
 unfoldable pub most_common : List ℕ → ℕ

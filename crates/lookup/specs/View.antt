@@ -1,7 +1,7 @@
 -- The profile as the definition of an event has it: one record of lookups. A handler takes the part of the current bank and the globals, so that what
 -- another bank holds cannot matter to it. Definitions only.
 use Rattle.std.specs.Prelude.{ℕ, Bool, List, Option}
-use Rattle.profile.specs.Profile.{bank_count}
+use Rattle.profile.specs.Profile.{bank_count, in_globals}
 use Rattle.lookup.specs.declared.Destination.{Destination}
 use Rattle.lookup.specs.declared.Entry.{Entry}
 use Rattle.lookup.specs.Lookup.{positions_of, remember_of, name_of, device_of, live_of, rec_of, select_of, fader_of, encoder_of, scenes_of, transports_of, button_of, bank_named}
@@ -58,7 +58,7 @@ view_of s =
       banks = bank_count s;
       name = name_of s;
       named = bank_named s;
-      globals = part_of s 255;
+      globals = part_of s in_globals;
       here = part_of s;
       button = button_of s;
     }

@@ -5,7 +5,7 @@ use Rattle.std.specs.Float.{binary64}
 use Rattle.std.specs.Float.Ieee.{of_bits}
 use Rattle.std.specs.Float.Ieee.Scale.{finite}
 use Rattle.base.specs.Range.{all, any, count, every}
-use Rattle.base.specs.Words.{le16, le64}
+use Rattle.base.specs.Words.{le16, le64, absent}
 
 -- ── the records ──
 
@@ -52,9 +52,13 @@ zeros s k a n = all n (λ j. eqb (byte_at s k (a + j)) 0)
 abbrev pub own_bank : ℕ → Bool
 own_bank b = leb b 15
 
+-- "255 globals": byte 1 of their records
+abbrev pub in_globals : ℕ
+in_globals = 255
+
 -- "; 255 globals, for kinds 2, 3, 5 only)"
 abbrev pub bank_or_globals : ℕ → Bool
-bank_or_globals b = leb b 15 || eqb b 255
+bank_or_globals b = leb b 15 || eqb b in_globals
 
 -- "Drivers are 0 to 15"
 abbrev pub driver : ℕ → Bool
@@ -66,7 +70,7 @@ flag f = leb f 1
 
 -- a name, which may not be absent: "Only target, mute, live and a bank's driver may be absent"
 abbrev pub name : ℕ → Bool
-name x = ltb x 65535
+name x = ltb x absent
 
 -- "Kinds of button: 0 to 3 .., 4 to 14 .., 15 unknown"
 abbrev pub button_kind : ℕ → Bool
@@ -84,7 +88,7 @@ bank_ok s k =
     (own_bank (byte_at s k 1)
     ∷ zeros s k 2 2
     ∷ name (half_at s k 4)
-    ∷ (driver (half_at s k 6) || eqb (half_at s k 6) 65535)
+    ∷ (driver (half_at s k 6) || eqb (half_at s k 6) absent)
     ∷ leb (byte_at s k 10) 2
     ∷ leb (byte_at s k 11) 1
     ∷ zeros s k 12 20
@@ -162,7 +166,7 @@ runs s k = not (is_kind s 1 k) || eqb (byte_at s k 1) (count k (is_kind s 1))
 
 -- the bank that a record of kind 2 to 5 names is there, or the record is one of the globals
 abbrev pub names_bank : List ℕ → ℕ → Bool
-names_bank s k = (ltb (byte_at s k 0) 2 || ltb 5 (byte_at s k 0)) || (eqb (byte_at s k 1) 255 || ltb (byte_at s k 1) (bank_count s))
+names_bank s k = (ltb (byte_at s k 0) 2 || ltb 5 (byte_at s k 0)) || (eqb (byte_at s k 1) in_globals || ltb (byte_at s k 1) (bank_count s))
 
 unfoldable pub ordered_at : List ℕ → ℕ → Bool
 ordered_at s k = every (rises s k ∷ runs s k ∷ names_bank s k ∷ [])

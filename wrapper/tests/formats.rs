@@ -28,7 +28,7 @@ fn call_bytes(c: raw::Call) -> Vec<u8> {
     [&[c.kind, c.driver][..], &name, &argument, &c.level.to_le_bytes()].concat()
 }
 
-/// What an event left, and the answers for the next.
+/// What an event left.
 struct Left {
     report: Report,
     messages: Vec<u8>,

@@ -1,0 +1,126 @@
+//! What docs/HANDBOOK.md tells a host: what is lost where it does otherwise, and how many answers an event can need.
+
+use zelwydro::{Answer, Bridge, Call, CallKind, Event, Input, Outcome, ABSENT};
+
+type Record = [u8; 32];
+
+/// A record of a profile: its first four bytes, and the names from byte 4 on.
+fn record(first: [u8; 4], names: &[u16]) -> Record {
+    let mut record = [0; 32];
+    record[..4].copy_from_slice(&first);
+    for (place, name) in record[4..].chunks_exact_mut(2).zip(names) {
+        place.copy_from_slice(&name.to_le_bytes());
+    }
+    record
+}
+
+fn settings(positions: u8) -> Record {
+    record([0, 0, positions, 1], &[])
+}
+
+fn bank(number: u8, driver: u16) -> Record {
+    record([1, number, 0, 0], &[10 + u16::from(number), driver, ABSENT])
+}
+
+/// A fader with takeover, from 0 to 1.
+fn fader(bank: u8, number: u8, driver: u16, target: u16, mute: u16) -> Record {
+    let mut record = record([2, bank, number, 1], &[driver, target, 20, 30, mute]);
+    record[24..].copy_from_slice(&1f64.to_le_bytes());
+    record
+}
+
+const PUSHED: Event = Event { time: 0.0, input: Input::Midi(&[0xe0, 0x7f, 0x7f]) };
+const MUTE: Event = Event { time: 0.0, input: Input::Midi(&[0x90, 0x10, 0x7f]) };
+const BANK_RIGHT: Event = Event { time: 0.0, input: Input::Midi(&[0x90, 0x2f, 0x7f]) };
+const ARROW_RIGHT: Event = Event { time: 0.0, input: Input::Midi(&[0x90, 0x63, 0x7f]) };
+const TICK: Event = Event { time: 0.5, input: Input::Tick };
+
+fn write(target: u16, level: f64) -> Call {
+    Call { kind: CallKind::Write, driver: 3, name: target, argument: 0, level }
+}
+
+#[test]
+fn an_event_between_a_wait_and_its_end_has_an_answer_taken_for_another() {
+    let profile = [settings(0), bank(0, ABSENT), bank(1, ABSENT), fader(0, 1, 3, 7, ABSENT), fader(1, 1, 3, 8, ABSENT)];
+    let mut bridge = Bridge::new(&profile.concat()).expect("a profile");
+    let mut answers = Answer::Done.records();
+    let Outcome::Waiting(call) = bridge.offer(&PUSHED, &answers) else { panic!("it waits") };
+    assert_eq!((call.kind, call.name), (CallKind::Read, 7));
+    // The host runs another event, which it must not, and then goes on with the answer about target 7.
+    assert!(matches!(bridge.offer(&BANK_RIGHT, &[]), Outcome::Done(_)));
+    answers.extend(Answer::Level(1.0).records());
+    let Outcome::Done(pushed) = bridge.offer(&PUSHED, &answers) else { panic!("the answer fits") };
+    assert_eq!((pushed.calls[1].kind, pushed.calls[1].name), (CallKind::Read, 8));
+    let Outcome::Done(tick) = bridge.offer(&TICK, &Answer::Done.records()) else { panic!("it is written") };
+    assert_eq!(tick.calls, [write(8, 1.0)]);
+}
+
+/// A device of one level, which does what it is told.
+fn device(level: &mut f64, call: &Call) -> Answer {
+    match call.kind {
+        CallKind::Read => return Answer::Level(*level),
+        CallKind::Write => *level = call.level,
+        _ => {}
+    }
+    Answer::Done
+}
+
+#[test]
+fn an_event_that_is_given_up_loses_what_it_had_to_keep() {
+    let profile = [settings(1), bank(0, ABSENT), fader(0, 1, 3, 7, ABSENT)].concat();
+    let mut level = 0.8;
+    let mut bridge = Bridge::new(&profile).expect("a profile");
+    let mut answers = Vec::new();
+    // Given up once the 0 is written.
+    while level != 0.0 {
+        let Outcome::Waiting(call) = bridge.offer(&MUTE, &answers) else { panic!("it waits") };
+        answers.extend(device(&mut level, &call).records());
+    }
+    assert!(matches!(bridge.offer(&MUTE, &answers), Outcome::Waiting(_)));
+    for _ in 0..2 {
+        bridge.run(&MUTE, |call| device(&mut level, call)).expect("it is done");
+    }
+    assert_eq!(level, 0.0, "the second press handed back what the first read");
+
+    // Brought to its end, by refusals if need be, it keeps the level.
+    level = 0.8;
+    let mut bridge = Bridge::new(&profile).expect("a profile");
+    let mut late = false;
+    let refusing = |call: &Call| {
+        let answer = if late { Answer::Refused } else { device(&mut level, call) };
+        late |= call.kind == CallKind::Write;
+        answer
+    };
+    bridge.run(&MUTE, refusing).expect("a refusal fits every call");
+    assert_eq!(level, 0.0);
+    bridge.run(&MUTE, |call| device(&mut level, call)).expect("it is done");
+    assert_eq!(level, 0.8);
+}
+
+#[test]
+fn a_move_of_which_the_status_was_left_out_is_lost() {
+    let profile = [settings(0), bank(0, ABSENT), fader(0, 1, 3, 7, ABSENT)].concat();
+    let mut bridge = Bridge::new(&profile).expect("a profile");
+    let running = Event { time: 0.0, input: Input::Midi(&[0x7f, 0x7f]) };
+    let Outcome::Done(done) = bridge.offer(&running, &[]) else { panic!("it is done") };
+    assert!(done.calls.is_empty());
+}
+
+/// Each device has 128 scenes, the arrow finds a number still flashing, and nobody is open yet.
+#[test]
+fn an_arrow_can_need_559_answers() {
+    let faders = (0..8).map(|n| fader(0, n + 1, n.into(), 40 + u16::from(n), 60 + u16::from(n)));
+    let profile: Vec<u8> = [settings(1), bank(0, 8)].into_iter().chain(faders).flatten().collect();
+    let mut bridge = Bridge::new(&profile).expect("a profile");
+    let flash = Event { time: 0.0, input: Input::FlashBank };
+    assert!(matches!(bridge.offer(&flash, &[]), Outcome::Done(_)));
+    let answer = |call: &Call| match call.kind {
+        CallKind::Read => Answer::Level(0.5),
+        CallKind::CurrentScene => Answer::Index(5),
+        CallKind::Scenes => Answer::Names((100..228).collect()),
+        _ => Answer::Done,
+    };
+    let done = bridge.run(&ARROW_RIGHT, answer).expect("it is done");
+    assert_eq!(done.used, 559);
+    assert_eq!(done.calls.iter().filter(|call| call.kind == CallKind::Scenes).count(), 4);
+}

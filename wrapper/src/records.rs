@@ -1,4 +1,4 @@
-//! What host and bridge tell each other, and the records in which they do (document 01, "Records"). All numbers are
+//! What host and bridge tell each other, and the records in which they do (docs/FORMATS.md). All numbers are
 //! little-endian.
 
 use crate::raw;

@@ -3,8 +3,8 @@
 use std::error::Error;
 use std::fmt;
 
-/// The number of document 01's table for which a profile, saved records or an event was refused. Its text is a sentence
-/// for the operator.
+/// The number from 1 to 14 for which a profile, saved records or an event was refused (docs/FORMATS.md). Its text is a
+/// sentence for the operator.
 #[derive(Debug, Clone, Copy, PartialEq, Eq)]
 pub struct Refused(pub u8);
 

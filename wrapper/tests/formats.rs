@@ -284,6 +284,22 @@ fn the_numbers_are_the_headers_and_the_wrappers() {
     }
 }
 
+#[test]
+fn the_limits_are_the_wrappers() {
+    let rows = table(FORMATS, "What | Limit");
+    let limit = |what: &str| rows.iter().find(|row| row[0] == what).map(|row| row[1]).expect("a row");
+    let room =
+        |bytes: usize| if bytes < 1000 { bytes.to_string() } else { format!("{},{:03}", bytes / 1000, bytes % 1000) };
+    let (messages, calls, saved) = (raw::MESSAGE_BYTES, raw::CALL_BYTES, raw::SAVED_BYTES);
+    let (m, c, s) = (messages / 3, calls / 16, saved / 8);
+    let (messages, calls) = (room(messages), room(calls));
+    let sends = format!("at least {messages} bytes: an event sends at most {m} messages of 3 bytes");
+    assert_eq!(limit("message buffer"), sends);
+    let makes = format!("at least {calls} bytes: an event makes at most {c} calls of 16 bytes");
+    assert_eq!(limit("call buffer"), makes);
+    assert_eq!(limit("saved records"), format!("{s} of 8 bytes: {saved} bytes"));
+}
+
 /// First and last note of each kind but the unknown, by the document.
 fn kinds_of_button() -> Vec<(String, Option<(u8, u8)>)> {
     let note = |word: &str| u8::from_str_radix(word.strip_prefix("0x")?, 16).ok();

@@ -1,33 +1,11 @@
-//! What docs/HANDBOOK.md tells a host: what is lost where it does otherwise, and how many answers an event can need.
+//! What docs/HANDBOOK.md tells an operator (`operator`), and a host: what is lost where it does otherwise, and how many answers
+//! an event can need.
 
+mod operator;
+mod rig;
+
+use rig::{bank, fader, settings};
 use zelwydro::{Answer, Bridge, Call, CallKind, Event, Input, Outcome, ABSENT};
-
-type Record = [u8; 32];
-
-/// A record of a profile: its first four bytes, and the names from byte 4 on.
-fn record(first: [u8; 4], names: &[u16]) -> Record {
-    let mut record = [0; 32];
-    record[..4].copy_from_slice(&first);
-    for (place, name) in record[4..].chunks_exact_mut(2).zip(names) {
-        place.copy_from_slice(&name.to_le_bytes());
-    }
-    record
-}
-
-fn settings(positions: u8) -> Record {
-    record([0, 0, positions, 1], &[])
-}
-
-fn bank(number: u8, driver: u16) -> Record {
-    record([1, number, 0, 0], &[10 + u16::from(number), driver, ABSENT])
-}
-
-/// A fader with takeover, from 0 to 1.
-fn fader(bank: u8, number: u8, driver: u16, target: u16, mute: u16) -> Record {
-    let mut record = record([2, bank, number, 1], &[driver, target, 20, 30, mute]);
-    record[24..].copy_from_slice(&1f64.to_le_bytes());
-    record
-}
 
 const PUSHED: Event = Event { time: 0.0, input: Input::Midi(&[0xe0, 0x7f, 0x7f]) };
 const MUTE: Event = Event { time: 0.0, input: Input::Midi(&[0x90, 0x10, 0x7f]) };

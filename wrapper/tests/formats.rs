@@ -7,7 +7,7 @@ mod written;
 use std::collections::BTreeMap;
 use std::fmt::Write;
 
-use document::{blocks, bytes, table, Block};
+use document::{blocks, bytes, table, tables, Block};
 use oracle::protocol::Button;
 use oracle::{names, recording};
 use zelwydro::raw::{self, Report, Session};
@@ -324,13 +324,44 @@ fn the_kinds_of_button_have_their_notes() {
     }
 }
 
+/// The bytes of a profile of the document.
+fn profile(name: &str) -> Vec<u8> {
+    let all = blocks(FORMATS);
+    let block = all.iter().find(|block| block.words[..] == ["hex", "profile", name, "accepted"]);
+    bytes(block.expect("a profile of the name"))
+}
+
+#[test]
+fn the_fields_fill_each_record_and_unused_bytes_are_0() {
+    let stage = profile("stage");
+    // Profile records, where `stage` has one of each, then event, call and saved; an answer's fields lie one over the other.
+    let records = [Some(0), Some(1), Some(3), Some(6), Some(8), Some(9), None, None, None];
+    let sizes = [32, 32, 32, 32, 32, 32, 16, 16, 8];
+    let mut fields = tables(FORMATS, "Offset | Size");
+    assert_eq!(fields.remove(8).last().map(|row| row[2]), Some("mute of a live fader, or 65535: none"));
+    assert_eq!(fields.len(), sizes.len());
+    for ((rows, size), record) in fields.iter().zip(sizes).zip(records) {
+        let mut at = 0;
+        for row in rows {
+            let (offset, length): (usize, usize) =
+                (row[0].parse().expect("a number"), row[1].parse().expect("a number"));
+            assert_eq!(offset, at, "{row:?}");
+            at += length;
+            for byte in (offset..at).filter(|_| row[2] == "unused") {
+                let mut changed = stage.clone();
+                changed[32 * record.expect("only a profile has unused bytes") + byte] = 1;
+                assert_eq!(raw::examine(&changed), 2, "{row:?}");
+            }
+        }
+        assert_eq!(at, size, "{rows:?}");
+    }
+}
+
 /// The profile of the document's example, and behind it a transport button of the kind in its bank.
 fn with_button(kind: u8) -> Vec<u8> {
-    let all = blocks(FORMATS);
-    let example = all.iter().find(|block| block.words[..] == ["hex", "profile", "example", "accepted"]);
     let mut button = [0; 32];
     button[..10].copy_from_slice(&[5, 0, kind, 0, 5, 0, 10, 0, 11, 0]);
-    [bytes(example.expect("the example")), button.to_vec()].concat()
+    [profile("example"), button.to_vec()].concat()
 }
 
 #[test]

@@ -73,10 +73,20 @@ fn digits(word: &str) -> Result<u8, String> {
     two.then(|| u8::from_str_radix(word, 16).expect("two digits")).ok_or_else(|| format!("{word} is no byte"))
 }
 
-/// The rows of the table whose first column has this heading.
-pub fn table<'a>(document: &'a str, heading: &str) -> Vec<Vec<&'a str>> {
+/// The rows of each table whose heading begins so.
+pub fn tables<'a>(document: &'a str, heading: &str) -> Vec<Vec<Vec<&'a str>>> {
     let cells = |line: &'a str| line.trim_matches('|').split('|').map(str::trim).collect::<Vec<_>>();
     let start = format!("| {heading} |");
-    let rows = document.lines().skip_while(|line| !line.starts_with(&start)).take_while(|line| line.starts_with('|'));
-    rows.skip(2).map(cells).collect()
+    let lines: Vec<&str> = document.lines().collect();
+    let starts = (0..lines.len()).filter(|&n| lines[n].starts_with(&start));
+    let rows =
+        |n: usize| lines[n + 2..].iter().take_while(|line| line.starts_with('|')).map(|line| cells(line)).collect();
+    starts.map(rows).collect()
+}
+
+/// The rows of the only table whose heading begins so.
+pub fn table<'a>(document: &'a str, heading: &str) -> Vec<Vec<&'a str>> {
+    let mut all = tables(document, heading);
+    assert_eq!(all.len(), 1, "one table of {heading}");
+    all.remove(0)
 }

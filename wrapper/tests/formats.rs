@@ -308,6 +308,7 @@ fn kinds_of_button() -> Vec<(String, Option<(u8, u8)>)> {
         None => note(words).map(|n| (n, n)),
     };
     let rows = table(FORMATS, "Kind | Button");
+    assert_eq!(rows.last().map(|row| row[2]), Some("all others"));
     let places = rows.iter().enumerate().map(|(n, row)| (n.to_string(), row));
     places.map(|(n, row)| (row[0] == n).then(|| (row[1].into(), range(row[2]))).expect("kinds in order")).collect()
 }

@@ -4,7 +4,8 @@
  * The host has the MIDI ports and the devices. It keeps one zelwydro_session for one surface and offers each event to zelwydro_on_event, with the
  * profile each time. All records are bytes, their numbers little-endian; levels and times are doubles.
  *
- * - A slice is two arguments: where its first byte is, and how many bytes it has. The pointer must not be null, even if there are none.
+ * - A slice is two arguments: where its first byte is, and how many bytes it has. The pointer may be null only where the length is 0: that is a slice
+ *   without bytes. Each function says what it makes of one. A pointer without a length, to a session or to the room for saved records, is never null.
  * - Nothing that a function writes may overlap anything else that it is handed.
  * - A session must be one that the bridge made: zelwydro_fresh, zelwydro_restore or an event left it there. In one of other origin each bool must be 0
  *   or 1, or what happens is undefined. All else that can be wrong with a session is refused (8).
@@ -12,7 +13,11 @@
  *   encoder's record, so that another profile may take them for another encoder's.
  * - There is no state but the session: two threads may call at the same time, if no session or buffer is used by both.
  *
- * Linked with libhost.a, for 64-bit processors of the x86 family.
+ * The archive is for Linux on 64-bit processors of the x86 family: one ELF object with the C calling convention of that system. It calls memcpy and
+ * memset and nothing else, and may be linked into a program or a shared library. In the project it is libhost.a, installed it is libzelwydro.a.
+ *
+ * Stack: zelwydro_on_event takes up to 40,488 bytes. zelwydro_restore takes 25,912 and zelwydro_save 10,056, and the session that is handed over by
+ * value, 7,912 bytes, comes on top. This was measured, and another build may differ: give a thread that calls them ZELWYDRO_STACK_BYTES.
  */
 #ifndef ZELWYDRO_H
 #define ZELWYDRO_H
@@ -21,18 +26,102 @@
 #include <stddef.h>
 #include <stdint.h>
 
+#ifndef __x86_64__
+#error "the archive is for 64-bit processors of the x86 family"
+#endif
+
 #ifdef __cplusplus
 extern "C" {
 #endif
 
+/* The version of header and archive. CHANGELOG.md says which number rises with which change. */
+#define ZELWYDRO_VERSION_MAJOR 0
+#define ZELWYDRO_VERSION_MINOR 1
+#define ZELWYDRO_VERSION_PATCH 0
+#define ZELWYDRO_VERSION "0.1.0"
+
+/* ---- Sizes ---- */
+
+/* Bytes of one record each. A session's size is sizeof(zelwydro_session). */
+#define ZELWYDRO_PROFILE_RECORD 32
+#define ZELWYDRO_EVENT_RECORD 16
+#define ZELWYDRO_ANSWER_RECORD 16
+#define ZELWYDRO_CALL_RECORD 16
+#define ZELWYDRO_MESSAGE_RECORD 3
+#define ZELWYDRO_SAVED_RECORD 8
+
+/* Bytes that a profile has, at most: 2,048 records. */
+#define ZELWYDRO_PROFILE_BYTES 65536
 /* Bytes that the message buffer must have, at least: 102 messages of 3. */
 #define ZELWYDRO_MESSAGE_BYTES 306
 /* Bytes that the call buffer must have, at least: 337 calls of 16. */
 #define ZELWYDRO_CALL_BYTES 5392
+/*
+ * Bytes that are enough for the answers to any event: 337 calls, each answered by a list of 128 items, 16 bytes a record. That is certain.
+ *
+ * The most that is known to come up is ZELWYDRO_ANSWER_BYTES_KNOWN. A host that has to do with less can have that and 16 bytes for each of 337 calls,
+ * ZELWYDRO_ANSWER_BYTES_KNOWN + ZELWYDRO_CALL_BYTES. If it answers refused in place of each list that would leave less than ZELWYDRO_CALL_BYTES behind it,
+ * there is room for all answers, whatever comes up.
+ */
+#define ZELWYDRO_ANSWER_BYTES 695568
+#define ZELWYDRO_ANSWER_BYTES_KNOWN 8944
 /* Bytes for saved records: one device and 16 scenes, 8 bytes each. */
 #define ZELWYDRO_SAVED_BYTES 136
-/* The number of a name that is absent, such as the mute of a fader that has none. */
+/* Bytes of stack for a thread that calls the bridge. */
+#define ZELWYDRO_STACK_BYTES 131072
+
+/* ---- Numbers with a meaning ---- */
+
+/* Names: the empty text, the text "scene", and that there is none, as the mute of a fader that has none. */
+#define ZELWYDRO_EMPTY 0
+#define ZELWYDRO_SCENE 1
 #define ZELWYDRO_ABSENT 65535
+/* In place of a bank's number: in every bank. */
+#define ZELWYDRO_GLOBALS 255
+
+/* The first byte of a profile's record. */
+enum {
+    ZELWYDRO_PROFILE_SETTINGS = 0,
+    ZELWYDRO_PROFILE_BANK = 1,
+    ZELWYDRO_PROFILE_FADER = 2,
+    ZELWYDRO_PROFILE_ENCODER = 3,
+    ZELWYDRO_PROFILE_SCENE = 4,
+    ZELWYDRO_PROFILE_TRANSPORT = 5, /* a button's command, in a bank or the globals */
+    ZELWYDRO_PROFILE_DEFAULT = 6    /* a button's command by the driver of a bank */
+};
+
+/* What REC does, in a bank's record: as the default button of its driver says, load a scene, or something else. */
+enum {
+    ZELWYDRO_REC_DEFAULT = 0,
+    ZELWYDRO_REC_SCENE = 1,
+    ZELWYDRO_REC_OTHER = 2
+};
+
+/* Kinds of button, in the records of transport and default buttons. docs/FORMATS.md has their notes. */
+enum {
+    ZELWYDRO_BUTTON_REC = 0,
+    ZELWYDRO_BUTTON_SOLO = 1,
+    ZELWYDRO_BUTTON_MUTE = 2,
+    ZELWYDRO_BUTTON_SELECT = 3,
+    ZELWYDRO_BUTTON_BANK_LEFT = 4,
+    ZELWYDRO_BUTTON_BANK_RIGHT = 5,
+    ZELWYDRO_BUTTON_ARROW_LEFT = 6,
+    ZELWYDRO_BUTTON_ARROW_RIGHT = 7,
+    ZELWYDRO_BUTTON_ARROW_UP = 8,
+    ZELWYDRO_BUTTON_ARROW_DOWN = 9,
+    ZELWYDRO_BUTTON_REWIND = 10,
+    ZELWYDRO_BUTTON_FORWARD = 11,
+    ZELWYDRO_BUTTON_STOP = 12,
+    ZELWYDRO_BUTTON_PLAY = 13,
+    ZELWYDRO_BUTTON_RECORD = 14,
+    ZELWYDRO_BUTTON_UNKNOWN = 15 /* any other note */
+};
+
+/* The first byte of a saved record. */
+enum {
+    ZELWYDRO_SAVED_DEVICE = 1, /* the bank that is selected */
+    ZELWYDRO_SAVED_SCENE = 2   /* where a bank is in its list of scenes */
+};
 
 /* ---- The session ---- */
 
@@ -221,6 +310,27 @@ typedef struct {
  * 14  an answer is cut short or does not fit its call
  */
 
+/* A sentence for the operator: what is wrong, and what to do about it. The Rust layer has the same. */
+static inline const char *zelwydro_why(uint8_t number) {
+    switch (number) {
+    case 1: return "the profile is empty, too long or cut off: load one of at most 2,048 whole records of 32 bytes";
+    case 2: return "the profile has a number out of range, such as a driver above 15 or a fader above 16: correct it";
+    case 3: return "records of the profile are out of order, stand there twice or name a missing bank: correct them";
+    case 4: return "the profile has no bank: add one";
+    case 5: return "the profile has above 128 scenes or 16 transports in a bank, or 16 buttons of a driver: remove some";
+    case 6: return "a range in the profile has an end that is no finite number: give that fader or encoder another";
+    case 7: return "what was saved is damaged: start without it, and select bank and scenes by hand";
+    case 8: return "the session does not fit the profile: start with a fresh one";
+    case 9: return "the host lends too little room: 306 bytes for messages and 5,392 for calls";
+    case 10: return "an event of no known kind or above three bytes: look at what is plugged into the surface's port";
+    case 11: return "more than 256 targets would be silenced: undo some mutes or the solo first";
+    case 12: return "an encoder was turned by above 1,000,000 steps with no tick between: see that the ticks run";
+    case 13: return "above 136 encoders wait for a tick: see that the ticks run";
+    case 14: return "a device's answer is cut short or does not fit the call: look at that device and its driver";
+    default: return "a reason that has no sentence here";
+    }
+}
+
 /* The session after a restore, and the number from 1 to 8 that refused it, or 0. */
 typedef struct {
     zelwydro_session session;
@@ -238,7 +348,7 @@ typedef struct {
 /* A session that has seen nothing: no device is open, bank 0 is selected. */
 zelwydro_session zelwydro_fresh(void);
 
-/* Whether a profile can be used: 0, or the number from 1 to 6 that refuses it. */
+/* Whether a profile can be used: 0, or the number from 1 to 6 that refuses it. A profile without bytes, its pointer null or not, is refused with 1. */
 uint8_t zelwydro_examine(const uint8_t *profile, size_t profile_length);
 
 /*
@@ -249,6 +359,8 @@ uint8_t zelwydro_examine(const uint8_t *profile, size_t profile_length);
  * answers: what the devices said to this event's calls so far, in order, 16 bytes each; behind a list come its items, 16 bytes each. At first there are
  * none. An event makes at most 337 calls.
  * messages: at least 306 bytes. calls: at least 5,392 bytes.
+ * session is not null. Each of the five others may be null if its length is 0. Without bytes a profile is refused with 1, a buffer with 9, an event with
+ * 10; answers without bytes are none, as for an event that is offered first.
  *
  * Waiting: nothing has changed. Make report.call, append its answer to the answers and offer the same event again, with the same time. It makes the same
  * calls again, which take their answers from the list, so that each call is made by the host once.
@@ -266,7 +378,8 @@ zelwydro_report zelwydro_on_event(
 
 /*
  * Back to the bank and the scenes of saved records: the session to go on with. If it is refused, or if the profile does not say to remember, that is the
- * session that was handed in.
+ * session that was handed in. Saved records without bytes, their pointer null or not, are none: the session stays as it is. A profile without bytes is
+ * refused with 1.
  */
 zelwydro_restored zelwydro_restore(
     zelwydro_session session,
@@ -275,7 +388,8 @@ zelwydro_restored zelwydro_restore(
 
 /*
  * Writes the saved records of a session to the start of out: the device first, then scenes by rising name. Keep these 8 * count bytes, and hand them to
- * zelwydro_restore at the next start. The time to write them is after an event whose report has saved set.
+ * zelwydro_restore at the next start. The time to write them is after an event whose report has saved set. out is not null, and has 136 bytes whatever
+ * is written; those behind the records stay as they were. A profile without bytes, its pointer null or not, is refused with 1.
  */
 zelwydro_saved zelwydro_save(
     zelwydro_session session,
@@ -284,12 +398,21 @@ zelwydro_saved zelwydro_save(
 
 /* The core's layout. A session of another size would be read and written past its end. */
 #ifdef __cplusplus
-static_assert(sizeof(zelwydro_session) == 7912, "a session has 7,912 bytes");
-static_assert(alignof(zelwydro_session) == 8, "a session stands at a multiple of 8");
+#define ZELWYDRO_ASSERT static_assert
+#define ZELWYDRO_ALIGNOF alignof
 #else
-_Static_assert(sizeof(zelwydro_session) == 7912, "a session has 7,912 bytes");
-_Static_assert(_Alignof(zelwydro_session) == 8, "a session stands at a multiple of 8");
+#define ZELWYDRO_ASSERT _Static_assert
+#define ZELWYDRO_ALIGNOF _Alignof
 #endif
+ZELWYDRO_ASSERT(sizeof(size_t) == 8, "a length has 8 bytes");
+ZELWYDRO_ASSERT(sizeof(zelwydro_session) == 7912, "a session has 7,912 bytes");
+ZELWYDRO_ASSERT(ZELWYDRO_ALIGNOF(zelwydro_session) == 8, "a session stands at a multiple of 8");
+ZELWYDRO_ASSERT(sizeof(zelwydro_call) == ZELWYDRO_CALL_RECORD, "a call has the bytes of its record");
+ZELWYDRO_ASSERT(sizeof(zelwydro_report) == 48, "a report has 48 bytes");
+ZELWYDRO_ASSERT(sizeof(zelwydro_restored) == 7920, "a session and a number have 7,920 bytes");
+ZELWYDRO_ASSERT(sizeof(zelwydro_saved) == 16, "a number and a count have 16 bytes");
+#undef ZELWYDRO_ASSERT
+#undef ZELWYDRO_ALIGNOF
 
 #ifdef __cplusplus
 }

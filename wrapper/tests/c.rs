@@ -1,6 +1,6 @@
 //! The header, by programs in C that are linked with the archive.
 
-#[allow(dead_code)] // Of hexadecimal digits nothing is read here.
+#[allow(dead_code)] // Not all of it is needed here.
 mod document;
 
 use std::collections::BTreeMap;
@@ -287,4 +287,38 @@ fn the_readmes_program_compiles() {
     let main = "size_t answer(zelwydro_call call, uint8_t *out) { return call.kind + (out == NULL); }\n\
                 int main(void) { return came(NULL, NULL, 0, NULL).kind; }\n";
     compiled(&written("readme.c", &[&text, main].concat()), "readme");
+}
+
+/// The profile of tests/host.c, as a program that has it prints it.
+fn profile_of_the_host() -> String {
+    let print = "for (size_t i = 0; i < sizeof profile; i++) printf(\"%02x\", profile[i]);";
+    let host = concat!(env!("CARGO_MANIFEST_DIR"), "/tests/host.c");
+    let text = format!("#define main host\n#include \"{host}\"\n#undef main\nint main(void) {{ {print} return 0; }}\n");
+    ran(&compiled(&written("profile.c", &text), "profile"), &[])
+}
+
+#[test]
+fn the_hosts_profile_is_the_documents() {
+    let all = blocks(FORMATS);
+    let stage = all.iter().find(|block| block.words[..] == ["hex", "profile", "stage", "accepted"]).expect("a profile");
+    let expected: String = document::bytes(stage).iter().map(|byte| format!("{byte:02x}")).collect();
+    assert_eq!(profile_of_the_host(), expected);
+}
+
+/// tests/host.txt is what a first run prints. A second one goes on where the first ended, and one whose file is damaged begins anew.
+#[test]
+fn a_host_runs_saves_and_goes_on() {
+    let host = compiled(Path::new(concat!(env!("CARGO_MANIFEST_DIR"), "/tests/host.c")), "host");
+    let file = Path::new(env!("CARGO_TARGET_TMPDIR")).join("saved.bin");
+    if file.exists() {
+        fs::remove_file(&file).expect("a file of this test");
+    }
+    assert_eq!(ran(&host, &[&file]), include_str!("host.txt"));
+    let saved = fs::read(&file).expect("it was saved");
+    assert_eq!(saved, [1, 0, 3, 0, 0, 0, 0, 0, 2, 0, 2, 0, 1, 0, 0, 0], "BAND is on, STAGE is at its second scene");
+    assert!(ran(&host, &[&file]).starts_with("restore\n  16 bytes, bank 1\n"));
+    fs::write(&file, &saved[..15]).expect("room");
+    let refused =
+        format!("restore\n  {}\n  15 bytes, bank 0\n", Refused(7).to_string().replace("refused (7)", "refused 7"));
+    assert!(ran(&host, &[&file]).starts_with(&refused));
 }

@@ -259,12 +259,6 @@ fn the_documents_say_these_sizes() {
     }
 }
 
-#[test]
-fn the_version_is_the_packages() {
-    let version = format!("#define ZELWYDRO_VERSION \"{}\"", env!("CARGO_PKG_VERSION"));
-    assert!(HEADER.lines().any(|line| line == version));
-}
-
 /// The header alone, in each language that it is for. Without a C++ compiler there is nothing to see there.
 #[test]
 fn the_header_stands_alone_in_c_and_cpp() {

@@ -26,7 +26,7 @@ const README: &str = include_str!("../README.md");
 fn compiled(source: &Path, name: &str) -> PathBuf {
     let program = Path::new(env!("CARGO_TARGET_TMPDIR")).join(name);
     let compiled = Command::new("cc")
-        .args(["-std=c11", "-Wall", "-Wextra", "-Werror", "-I", INCLUDE])
+        .args(["-std=c11", "-Wall", "-Wextra", "-Werror", "-pthread", "-I", INCLUDE])
         .arg(source)
         .args([env!("ZELWYDRO_ARCHIVE"), "-o"])
         .arg(&program)
@@ -149,6 +149,21 @@ restore both: 1 bank 0
 save profile: 1 0 5a5a
 ";
     assert_eq!(printed("null"), expected.repeat(2));
+}
+
+/// In the small room for answers, and on a thread with the stack that the header names: no list is refused, and the program
+/// fails if less than a quarter of the stack was left.
+#[test]
+fn what_the_header_sets_aside_is_enough() {
+    let expected = "\
+kind 0 calls 0 answers 0 bytes 0
+kind 0 calls 47 answers 559 bytes 8944
+kind 0 calls 16 answers 16 bytes 256
+kind 0 calls 0 answers 0 bytes 0
+saved 0 2 restored 0
+most 8944
+";
+    assert_eq!(printed("most"), expected);
 }
 
 /// Each number that the header names, as a program in C has it.

@@ -1,7 +1,7 @@
-# What a host in C needs: archive, header, zelwydro.pc and documents. Nothing is proved or compiled here: wrapper/archive makes the archive.
+# What a host needs. Nothing is proved or compiled here: wrapper/archive makes the archive.
 #
-#   make install DESTDIR=.. PREFIX=..     puts it under DESTDIR, to be used from PREFIX
-#   make dist DIST=..                     the same as DIST/zelwydro-VERSION.tar.gz, to be used from wherever it is unpacked
+#   make install DESTDIR=.. PREFIX=..     archive, header, zelwydro.pc and documents under DESTDIR, to be used from PREFIX
+#   make dist DIST=..                     the same and the Rust package, as DIST/zelwydro-VERSION.tar.gz, to be used from wherever it is unpacked
 
 PREFIX ?= /usr/local
 LIBDIR ?= $(PREFIX)/lib
@@ -37,12 +37,15 @@ install: $(ARCHIVE)
 	chmod 644 '$(DESTDIR)$(LIBDIR)/pkgconfig/zelwydro.pc'
 	for file in $(DOCUMENTS); do $(INSTALL) -D -m 644 "$$file" '$(DESTDIR)$(DOCDIR)'/"$$file" || exit 1; done
 
-# The tree is made anew, so that nothing of an older one is in the tar.
+# The tree is made anew, so that nothing of an older one is in the tar. The Rust package finds the archive where it is in the project, beside its own folder.
 dist: $(ARCHIVE)
 	rm -rf '$(DIST)/$(NAME)'
 	$(MAKE) --no-print-directory install DESTDIR='$(DIST)' PREFIX='/$(NAME)' PC_PREFIX='$$$${pcfiledir}/../..' ARCHIVE='$(ARCHIVE)' \
 	    LIBDIR='/$(NAME)/lib' INCLUDEDIR='/$(NAME)/include' DOCDIR='/$(NAME)/share/doc/zelwydro'
 	$(INSTALL) -m 644 LICENSE NOTICE '$(DIST)/$(NAME)'
+	$(INSTALL) -d '$(DIST)/$(NAME)/rust' '$(DIST)/$(NAME)/target/staticlib'
+	cp -R wrapper/Cargo.toml wrapper/build.rs wrapper/src '$(DIST)/$(NAME)/rust'
+	ln -s ../../lib/libzelwydro.a '$(DIST)/$(NAME)/target/staticlib/libhost.a'
 	tar --sort=name --owner=0 --group=0 --numeric-owner --mode=u=rwX,go=rX --mtime='@$(SOURCE_DATE_EPOCH)' -C '$(DIST)' \
 	    -cf '$(DIST)/$(NAME).tar' '$(NAME)'
 	gzip -nf '$(DIST)/$(NAME).tar'

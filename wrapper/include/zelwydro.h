@@ -5,7 +5,8 @@
  * profile each time. All records are bytes, their numbers little-endian; levels and times are doubles.
  *
  * - A slice is two arguments: where its first byte is, and how many bytes it has. The pointer may be null only where the length is 0: that is a slice
- *   without bytes. Each function says what it makes of one. A pointer without a length, to a session or to the room for saved records, is never null.
+ *   without bytes. Each function says what it makes of one; this is tested, not proved. A pointer without a length, to a session or to the room for saved
+ *   records, is never null.
  * - Nothing that a function writes may overlap anything else that it is handed.
  * - A session must be one that the bridge made: zelwydro_fresh, zelwydro_restore or an event left it there. In one of other origin each bool must be 0
  *   or 1, or what happens is undefined. All else that can be wrong with a session is refused (8).

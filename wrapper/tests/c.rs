@@ -288,6 +288,22 @@ fn the_header_stands_alone_in_c_and_cpp() {
     }
 }
 
+/// It stands in a shared library, with no relocation in its code, over memcpy and memset alone.
+#[test]
+fn the_archive_needs_memcpy_and_memset_and_nothing_else() {
+    let text = "#include <stddef.h>
+void *memcpy(void *to, const void *from, size_t n) { (void)from; (void)n; return to; }
+void *memset(void *to, int byte, size_t n) { (void)byte; (void)n; return to; }\n";
+    let said = Command::new("cc")
+        .args(["-shared", "-fPIC", "-ffreestanding", "-nostdlib", "-Wl,-z,defs", "-Wl,-z,text"])
+        .arg(written("two.c", text))
+        .args(["-Wl,--whole-archive", env!("ZELWYDRO_ARCHIVE"), "-Wl,--no-whole-archive", "-o"])
+        .arg(Path::new(env!("CARGO_TARGET_TMPDIR")).join("two.so"))
+        .output()
+        .expect("a C compiler, cc");
+    assert!(said.status.success(), "{}", String::from_utf8_lossy(&said.stderr));
+}
+
 #[test]
 fn the_readmes_program_compiles() {
     let all = blocks(README);

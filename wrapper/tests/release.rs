@@ -1,5 +1,6 @@
 //! What `make install` and `make dist` leave, as a host uses it.
 
+use std::collections::BTreeSet;
 use std::fs;
 use std::path::{Path, PathBuf};
 use std::process::Command;
@@ -27,12 +28,17 @@ fn ran(command: &mut Command) -> String {
 }
 
 /// make, whatever make or packager these tests are run by.
-fn make(words: &[String]) {
+fn making(archive: &str, words: &[String]) -> Command {
     let mut command = Command::new("make");
     for name in ["MAKEFLAGS", "MFLAGS", "DESTDIR", "PREFIX", "LIBDIR", "INCLUDEDIR", "DOCDIR", "PC_PREFIX"] {
         command.env_remove(name);
     }
-    ran(command.args(["-C", ROOT, concat!("ARCHIVE=", env!("ZELWYDRO_ARCHIVE"))]).args(words));
+    command.args(["-C", ROOT, &format!("ARCHIVE={archive}")]).args(words);
+    command
+}
+
+fn make(words: &[String]) {
+    ran(&mut making(env!("ZELWYDRO_ARCHIVE"), words));
 }
 
 /// All files below a folder, by their paths there.
@@ -114,6 +120,20 @@ fn a_host_runs(prefix: &Path, above: &Path) {
     assert_eq!(printed, include_str!("host.txt"));
 }
 
+/// The same for a host in Rust, a package beside the one that is in the tar.
+fn a_host_in_rust_runs(prefix: &Path) {
+    let host = prefix.join("own");
+    fs::create_dir_all(host.join("src")).expect("room");
+    let manifest =
+        "[package]\nname = \"own\"\nedition = \"2021\"\n[dependencies]\nzelwydro.path = \"../rust\"\n[workspace]\n";
+    fs::write(host.join("Cargo.toml"), manifest).expect("room");
+    let main = "fn main() { println!(\"{}\", zelwydro::Bridge::new(&[]).expect_err(\"it has no bytes\").0) }\n";
+    fs::write(host.join("src/main.rs"), main).expect("room");
+    let mut command = Command::new(env!("CARGO"));
+    command.env_remove("ZELWYDRO_LIB").env("CARGO_TARGET_DIR", host.join("target")).current_dir(&host);
+    assert_eq!(ran(command.args(["run", "--offline", "--quiet"])), "1\n");
+}
+
 #[test]
 fn what_is_installed_is_what_a_host_needs() {
     let stage = folder("stage");
@@ -127,6 +147,16 @@ fn what_is_installed_is_what_a_host_needs() {
     );
     assert_eq!(field(&pc, "Version", &stage), VERSION);
     a_host_runs(&prefix, &stage);
+}
+
+#[test]
+fn without_an_archive_nothing_is_installed() {
+    let stage = folder("none");
+    let words = ["install".into(), format!("DESTDIR={}", stage.display())];
+    let said = making("/nowhere/libhost.a", &words).output().expect("make");
+    assert!(!said.status.success());
+    assert!(String::from_utf8_lossy(&said.stderr).contains("There is no /nowhere/libhost.a: run wrapper/archive"));
+    assert!(files(&stage).is_empty());
 }
 
 #[test]
@@ -149,17 +179,23 @@ fn the_tar_runs_from_wherever_it_is_unpacked() {
     let name = format!("zelwydro-{VERSION}");
     let tar = |dist: &Path| dist.join(format!("{name}.tar.gz"));
     for dist in [&made, &again] {
-        make(&["dist".into(), format!("DIST={}", dist.display())]);
+        make(&["dist".into(), format!("DIST={}", dist.display()), "SOURCE_DATE_EPOCH=86400".into()]);
     }
     let bytes = |dist: &Path| fs::read(tar(dist)).expect("a tar");
     assert!(bytes(&made) == bytes(&again), "the same files make the same tar");
+    // Whenever it is made: nothing in it is of the day on which it was.
+    let list = ran(Command::new("tar").args(["--utc", "-tvzf"]).arg(tar(&made)));
+    assert!(list.lines().all(|line| line.contains(" 0/0 ") && line.contains(" 1970-01-02 00:00 ")), "{list}");
     ran(Command::new("tar").arg("-xzf").arg(tar(&made)).arg("-C").arg(&elsewhere));
-    let mut expected = [installed(), vec!["LICENSE", "NOTICE"]].concat();
-    expected.sort();
-    assert_eq!(files(&elsewhere), expected.iter().map(|file| format!("{name}/{file}")).collect::<Vec<_>>());
+    let rust = ["Cargo.toml", "build.rs"].map(String::from).into_iter();
+    let rust = rust.chain(files(&Path::new(ROOT).join("wrapper/src")).into_iter().map(|file| format!("src/{file}")));
+    let own = ["LICENSE", "NOTICE", "target/staticlib/libhost.a"].into_iter().chain(installed()).map(String::from);
+    let expected = own.chain(rust.map(|file| format!("rust/{file}"))).map(|file| format!("{name}/{file}"));
+    assert_eq!(files(&elsewhere), BTreeSet::from_iter(expected).into_iter().collect::<Vec<_>>());
     // Where it was made is gone.
     fs::remove_dir_all(&made).expect("a folder of this test");
-    a_host_runs(&elsewhere.join(name), Path::new(""));
+    a_host_runs(&elsewhere.join(&name), Path::new(""));
+    a_host_in_rust_runs(&elsewhere.join(name));
 }
 
 /// The header has it; this package and the changes say the same.

@@ -58,7 +58,8 @@ extern "C" {
 /* Bytes that the call buffer must have, at least: 337 calls of 16. */
 #define ZELWYDRO_CALL_BYTES 5392
 /*
- * Bytes that are enough for the answers to any event: 337 calls, each answered by a list of 128 items, 16 bytes a record. That is certain.
+ * Bytes that are enough for the answers to any event: 337 calls, each answered by a list of 128 items, 16 bytes a record. That is certain for a host that
+ * writes no list of more items: such a list would be refused with 14.
  *
  * The most that is known to come up is ZELWYDRO_ANSWER_BYTES_KNOWN. A host that has to do with less can have that and 16 bytes for each of 337 calls,
  * ZELWYDRO_ANSWER_BYTES_KNOWN + ZELWYDRO_CALL_BYTES. If it answers refused in place of each list that would leave less than ZELWYDRO_CALL_BYTES behind it,

@@ -143,9 +143,10 @@ all but profile: kind 1 number 9 used 0 call 0 0, same
 all: kind 1 number 1 used 0 call 0 0, same
 none: kind 2 number 0 used 0 call 1 3, same
 examine: 1
-restore profile: 1 bank 0
-restore saved: 0 bank 0
-restore both: 1 bank 0
+restore profile: 1 bank 1
+restore saved: 0 bank 1
+restore both: 1 bank 1
+restore neither: 0 bank 0
 save profile: 1 0 5a5a
 ";
     assert_eq!(printed("null"), expected.repeat(2));

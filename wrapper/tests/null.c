@@ -7,16 +7,18 @@
 #include <stdio.h>
 #include <string.h>
 
-/* Positions on, remember on; bank 0, named 2; its fader 1 on driver 3, target 7. */
-static const uint8_t profile[96] = {
-    [2] = 1, [3] = 1,
-    [32] = 1, [36] = 2, [38] = 0xff, [39] = 0xff, [40] = 0xff, [41] = 0xff,
-    [64] = 2, [66] = 1, [67] = 1, [68] = 3, [70] = 7, [72] = 8, [74] = 9, [76] = 0xff, [77] = 0xff,
-    [94] = 0xf0, [95] = 0x3f,
+/* Positions on, remember on; banks 0 and 1, named 2 and 5; fader 1 of bank 0 on driver 3, target 7, up to 1.0. */
+static const uint8_t profile[128] = {
+    [2] = 1, 1,
+    [32] = ZELWYDRO_PROFILE_BANK, 0, 0, 0, 2, 0, 0xff, 0xff, 0xff, 0xff,
+    [64] = ZELWYDRO_PROFILE_BANK, 1, 0, 0, 5, 0, 0xff, 0xff, 0xff, 0xff,
+    [96] = ZELWYDRO_PROFILE_FADER, 0, 1, 1, 3, 0, 7, 0, 8, 0, 9, 0, 0xff, 0xff,
+    [126] = 0xf0, 0x3f,
 };
 static const uint8_t pushed[16] = {ZELWYDRO_EVENT_MIDI, 3, 0xe0, 0x7f, 0x7f};
 static const uint8_t tick[16] = {ZELWYDRO_EVENT_TICK};
 static const uint8_t ready[16] = {ZELWYDRO_ANSWER_DONE};
+static const uint8_t device[8] = {ZELWYDRO_SAVED_DEVICE, 0, 2}; /* bank 0 */
 static uint8_t messages[ZELWYDRO_MESSAGE_BYTES], calls[ZELWYDRO_CALL_BYTES], saved[ZELWYDRO_SAVED_BYTES];
 
 /* Which slices are without bytes. */
@@ -45,8 +47,12 @@ static void offer(const char *what, const uint8_t *event, int without, uint8_t *
     printf("%s: kind %d number %d used %zu call %d %d, %s\n", what, r.kind, r.number, r.used, r.call.kind, r.call.driver, same ? "same" : "changed");
 }
 
+/* Restores into a session of which bank 1 is selected. */
 static void restore(const char *what, const uint8_t *p, size_t p_length, const uint8_t *records, size_t length) {
-    zelwydro_restored restored = zelwydro_restore(zelwydro_fresh(), p, p_length, records, length);
+    const uint8_t right[16] = {ZELWYDRO_EVENT_MIDI, 3, 0x90, 0x2f, 0x7f};
+    zelwydro_session session = zelwydro_fresh();
+    zelwydro_on_event(&session, profile, sizeof profile, right, sizeof right, NULL, 0, messages, sizeof messages, calls, sizeof calls);
+    zelwydro_restored restored = zelwydro_restore(session, p, p_length, records, length);
     printf("%s: %d bank %d\n", what, restored.why, restored.session.bank);
 }
 
@@ -62,9 +68,10 @@ static void all(uint8_t *nothing) {
     offer("all", pushed, PROFILE | EVENT | ANSWERS | MESSAGES | CALLS, nothing);
     offer("none", pushed, 0, nothing);
     printf("examine: %d\n", zelwydro_examine(nothing, 0));
-    restore("restore profile", nothing, 0, ready, 8);
+    restore("restore profile", nothing, 0, device, sizeof device);
     restore("restore saved", profile, sizeof profile, nothing, 0);
     restore("restore both", nothing, 0, nothing, 0);
+    restore("restore neither", profile, sizeof profile, device, sizeof device);
     memset(saved, 0x5a, sizeof saved);
     zelwydro_saved kept = zelwydro_save(zelwydro_fresh(), nothing, 0, &saved);
     printf("save profile: %d %zu %02x%02x\n", kept.why, kept.count, saved[0], saved[sizeof saved - 1]);

@@ -1,12 +1,15 @@
 //! The bridge between a control surface and a rack, for a host in Rust.
 //!
-//! The host has the MIDI ports and the devices. It offers each event to the [`Bridge`], makes the calls that the event
-//! asks for, and sends the messages that come back to the surface. README.md has an example.
+//! The host has the MIDI ports and the devices. It begins each event with [`Bridge::begin`], makes the calls that the
+//! event asks for, and sends the messages that come back to the surface. `examples/host.rs` is a whole start.
 
+mod event;
+#[doc(hidden)]
 pub mod raw;
 mod records;
 mod refused;
 
+pub use event::{Done, Step, Waiting};
 pub use records::{Answer, Call, CallKind, Event, Input, LiveFader, ABSENT};
 pub use refused::Refused;
 
@@ -20,29 +23,6 @@ struct Readme;
 pub struct Bridge {
     profile: Vec<u8>,
     session: raw::Session,
-}
-
-/// What became of an event that was offered once.
-#[derive(Debug, Clone, PartialEq)]
-pub enum Outcome {
-    Done(Done),
-    /// Nothing has changed.
-    Refused(Refused),
-    /// Nothing has changed: make this call, append its answer and offer the same event again.
-    Waiting(Call),
-}
-
-/// What a finished event did.
-#[derive(Debug, Clone, PartialEq)]
-pub struct Done {
-    /// To be sent to the surface, in order.
-    pub messages: Vec<[u8; 3]>,
-    /// What was asked of the devices, in order.
-    pub calls: Vec<Call>,
-    /// How many answer records of 16 bytes were used, list items included.
-    pub used: usize,
-    /// Whether [`Bridge::saved`] is to be kept now.
-    pub saved: bool,
 }
 
 impl Bridge {
@@ -69,42 +49,58 @@ impl Bridge {
         out[..8 * saved.count].to_vec()
     }
 
-    /// Offers an event once, with the answers that there are to its calls so far: one behind the other, as
-    /// [`Answer::records`] makes them.
-    pub fn offer(&mut self, event: &Event, answers: &[u8]) -> Outcome {
-        let mut messages = [0; raw::MESSAGE_BYTES];
-        let mut calls = [0; raw::CALL_BYTES];
-        let report =
-            raw::on_event(&mut self.session, &self.profile, &event.record(), answers, &mut messages, &mut calls);
-        match report.kind {
-            raw::DONE => Outcome::Done(Done {
-                messages: parts(&messages).take(report.messages).copied().collect(),
-                calls: parts(&calls).take(report.calls).map(Call::from_record).collect(),
-                used: report.used,
-                saved: report.saved,
-            }),
-            raw::REFUSED => Outcome::Refused(Refused(report.number)),
-            _ => Outcome::Waiting(report.call.into()),
-        }
+    /// Begins an event. Until it ends it borrows the bridge, so that nothing else can come between: answers have no
+    /// names, and another event's change would have them taken for other calls' (docs/HANDBOOK.md).
+    ///
+    /// ```compile_fail,E0499
+    /// # use zelwydro::{Answer, Bridge, Event, Input, Step};
+    /// # fn between(bridge: &mut Bridge, moved: &Event, tick: &Event) {
+    /// let Step::Waiting(waiting) = bridge.begin(moved) else { return };
+    /// let _ = bridge.begin(tick); // the bridge is lent to the move that waits
+    /// let _ = waiting.answer(&Answer::Level(1.0));
+    /// # }
+    /// ```
+    ///
+    /// Nor can a restore come between, and an answer that was given is not given again:
+    ///
+    /// ```compile_fail,E0499
+    /// # use zelwydro::{Answer, Bridge, Event, Step};
+    /// # fn between(bridge: &mut Bridge, moved: &Event) {
+    /// let Step::Waiting(waiting) = bridge.begin(moved) else { return };
+    /// let _ = bridge.restore(&[]);
+    /// let _ = waiting.answer(&Answer::Done);
+    /// # }
+    /// ```
+    ///
+    /// ```compile_fail,E0382
+    /// # use zelwydro::{Answer, Bridge, Event, Step};
+    /// # fn twice(bridge: &mut Bridge, moved: &Event) {
+    /// let Step::Waiting(waiting) = bridge.begin(moved) else { return };
+    /// let _ = waiting.answer(&Answer::Done);
+    /// let _ = waiting.answer(&Answer::Done);
+    /// # }
+    /// ```
+    ///
+    /// Answered in order, it goes on:
+    ///
+    /// ```
+    /// # use zelwydro::{Answer, Bridge, Event, Step};
+    /// # fn in_order(bridge: &mut Bridge, moved: &Event, tick: &Event) {
+    /// if let Step::Waiting(waiting) = bridge.begin(moved) {
+    ///     let _ = waiting.answer(&Answer::Level(1.0)).refuse_rest();
+    /// }
+    /// let _ = bridge.begin(tick);
+    /// # }
+    /// ```
+    pub fn begin(&mut self, event: &Event) -> Step<'_> {
+        event::begin(self, event.record())
     }
 
-    /// Runs an event to its end: each call is made once, by `devices`, and the event is offered again with its answer.
+    /// Runs an event to its end: each call is made once, by `devices`.
     ///
     /// A refusal leaves the bridge as it was. One for an answer (14) comes after calls that were made: the devices keep
     /// what those did.
-    pub fn run(&mut self, event: &Event, mut devices: impl FnMut(&Call) -> Answer) -> Result<Done, Refused> {
-        let mut answers = Vec::new();
-        loop {
-            match self.offer(event, &answers) {
-                Outcome::Done(done) => return Ok(done),
-                Outcome::Refused(refused) => return Err(refused),
-                Outcome::Waiting(call) => answers.extend(devices(&call).records()),
-            }
-        }
+    pub fn run(&mut self, event: &Event, devices: impl FnMut(&Call) -> Answer) -> Result<Done, Refused> {
+        self.begin(event).run(devices)
     }
-}
-
-/// The records of a buffer.
-fn parts<const N: usize>(buffer: &[u8]) -> impl Iterator<Item = &[u8; N]> {
-    buffer.chunks_exact(N).map(|part| part.try_into().expect("a chunk has its length"))
 }

@@ -1,6 +1,6 @@
 //! Document 01's example and what else a host meets, through the safe functions.
 
-use zelwydro::{Answer, Bridge, Call, CallKind, Done, Event, Input, Outcome, Refused, ABSENT};
+use zelwydro::{Answer, Bridge, Call, CallKind, Done, Event, Input, Refused, Step, Waiting, ABSENT};
 
 type Record = [u8; 32];
 
@@ -68,28 +68,61 @@ fn the_example_runs_with_devices() {
     }
 }
 
-#[test]
-fn the_example_runs_with_answers_given() {
-    let mut bridge = example();
-    let [pushed, tick] = expected();
-    // The last answer is left for the next event.
-    let answers = [Answer::Done, Answer::Level(1.0), Answer::Done].map(|answer| answer.records()).concat();
-    assert_eq!(bridge.offer(&PUSHED, &answers), Outcome::Done(pushed));
-    assert_eq!(bridge.offer(&TICK, &answers[32..]), Outcome::Done(tick));
+/// The event that still waits.
+fn waits(step: Step<'_>) -> Waiting<'_> {
+    match step {
+        Step::Waiting(waiting) => waiting,
+        ended => panic!("it has ended: {ended:?}"),
+    }
+}
+
+/// What the event did that is done.
+fn done(step: Step<'_>) -> Done {
+    match step {
+        Step::Done(done) => done,
+        other => panic!("it is not done: {other:?}"),
+    }
 }
 
 #[test]
-fn a_waiting_event_says_for_what_and_changes_nothing() {
+fn the_example_runs_answer_by_answer() {
     let mut bridge = example();
-    let open = Answer::Done.records();
-    let answers = [Answer::Done, Answer::Level(1.0)].map(|answer| answer.records()).concat();
+    let [pushed, tick] = expected();
+    let waiting = waits(bridge.begin(&PUSHED));
+    assert_eq!(*waiting.call(), call(CallKind::Open, 0.0));
+    let waiting = waits(waiting.answer(&Answer::Done));
+    assert_eq!(*waiting.call(), call(CallKind::Read, 0.0));
+    assert_eq!(done(waiting.answer(&Answer::Level(1.0))), pushed);
+    let waiting = waits(bridge.begin(&TICK));
+    assert_eq!(*waiting.call(), call(CallKind::Write, 1.0));
+    assert_eq!(done(waiting.answer(&Answer::Done)), tick);
+}
+
+#[test]
+fn an_event_that_is_dropped_leaves_the_bridge_as_it_was() {
+    let mut bridge = example();
     // The open is asked for again after the wait for the read: the session has kept nothing of it.
     for _ in 0..2 {
-        assert_eq!(bridge.offer(&PUSHED, &[]), Outcome::Waiting(call(CallKind::Open, 0.0)));
-        assert_eq!(bridge.offer(&PUSHED, &open), Outcome::Waiting(call(CallKind::Read, 0.0)));
+        let waiting = waits(bridge.begin(&PUSHED));
+        assert_eq!(waiting.call().kind, CallKind::Open);
+        assert_eq!(waits(waiting.answer(&Answer::Done)).call().kind, CallKind::Read);
     }
     let [pushed, _] = expected();
-    assert_eq!(bridge.offer(&PUSHED, &answers), Outcome::Done(pushed));
+    assert_eq!(bridge.run(&PUSHED, device), Ok(pushed));
+}
+
+#[test]
+fn an_event_ends_where_its_further_calls_are_refused() {
+    let mut bridge = example();
+    let waiting = waits(bridge.begin(&PUSHED));
+    let ended = waits(waiting.answer(&Answer::Done)).refuse_rest();
+    // The fader takes a device over that cannot be read.
+    assert_eq!(ended, Ok(expected()[0].clone()));
+    // The driver is open: the write is the tick's only call.
+    let ended = bridge.begin(&TICK).refuse_rest().expect("it is done");
+    assert_eq!(ended.calls, [call(CallKind::Write, 1.0)]);
+    // What has ended stays so.
+    assert_eq!(bridge.begin(&TICK).refuse_rest().map(|done| done.calls), Ok(vec![]));
 }
 
 #[test]
@@ -107,7 +140,7 @@ fn a_refused_profile_makes_no_bridge() {
 fn an_event_that_is_none_and_an_answer_that_does_not_fit_are_refused() {
     let mut bridge = example();
     let long = Event { time: 0.0, input: Input::Midi(&[0xF0, 0, 0, 0xF7]) };
-    assert_eq!(bridge.offer(&long, &[]), Outcome::Refused(Refused(10)));
+    assert!(matches!(bridge.begin(&long), Step::Refused(Refused(10))));
     let mut made = 0;
     let outcome = bridge.run(&PUSHED, |_| {
         made += 1;

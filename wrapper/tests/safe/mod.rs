@@ -1,11 +1,12 @@
 //! The safe functions over the stored recording: what they say must be what the functions as they are say.
-//! Both have buffers that are long enough, whatever the recording says.
+//! Both have buffers that are long enough, whatever the recording says. Where the recording's answers end, the event is
+//! given up: on both sides nothing has changed.
 
 use crate::call_at;
-use oracle::recording::{read, Case, Kind, Step};
+use oracle::recording::{self, read, Case, Kind};
 use oracle::stored;
 use zelwydro::raw::{self, Session};
-use zelwydro::{Bridge, Call, CallKind, Done, Event, Input, Outcome, Refused};
+use zelwydro::{Answer, Bridge, Call, CallKind, Done, Event, Input, LiveFader, Refused, Step};
 
 /// By the numbers of document 01.
 const KINDS: [CallKind; 10] = [
@@ -40,31 +41,83 @@ fn event(record: &[u8]) -> Option<Event<'_>> {
     Some(Event { time: f64::from_le_bytes(time.try_into().expect("eight bytes")), input })
 }
 
-/// What the function as it is says to an event, in the words of the safe ones.
-fn outcome(s: &mut Session, profile: &[u8], step: &Step) -> Outcome {
+/// What the function as it is says to an event, as the text of what the safe ones say; a level may be NaN.
+fn outcome(s: &mut Session, profile: &[u8], step: &recording::Step) -> String {
     let (mut messages, mut calls) = ([0; raw::MESSAGE_BYTES], [0; raw::CALL_BYTES]);
     let r = raw::on_event(s, profile, &step.record, &step.answers, &mut messages, &mut calls);
+    let done = || Done {
+        messages: messages[..3 * r.messages].chunks(3).map(|m| [m[0], m[1], m[2]]).collect(),
+        calls: calls[..16 * r.calls].chunks(16).map(|c| call(call_at(c))).collect(),
+        used: r.used,
+        saved: r.saved,
+    };
     match r.kind {
-        raw::DONE => Outcome::Done(Done {
-            messages: messages[..3 * r.messages].chunks(3).map(|m| [m[0], m[1], m[2]]).collect(),
-            calls: calls[..16 * r.calls].chunks(16).map(|c| call(call_at(c))).collect(),
-            used: r.used,
-            saved: r.saved,
-        }),
-        raw::REFUSED => Outcome::Refused(Refused(r.number)),
-        _ => Outcome::Waiting(call(r.call)),
+        raw::DONE => format!("{:?}", done()),
+        raw::REFUSED => format!("{:?}", Refused(r.number)),
+        _ => format!("{:?}", call(r.call)),
     }
 }
 
-/// Takes the step on both sides; texts are compared, since a level may be NaN.
-fn same_step(bridge: &mut Bridge, s: &mut Session, profile: &[u8], step: &Step) {
+/// The first answer, in the words that fit the call if it is a list, and the records that it has.
+fn answer(kind: CallKind, records: &[u8]) -> Option<(Answer, usize)> {
+    let r = records.get(..16)?;
+    let half = |r: &[u8], at: usize| u16::from_le_bytes([r[at], r[at + 1]]);
+    let one = match (r[0], r[1]) {
+        (0, _) => Answer::Refused,
+        (1, _) => Answer::Done,
+        (2, _) => Answer::Level(f64::from_le_bytes(r[8..16].try_into().expect("eight bytes"))),
+        (3, _) => Answer::Nothing,
+        (4, yes @ 0..=1) => Answer::YesNo(yes == 1),
+        (5, _) => Answer::Index(u32::from_le_bytes(r[4..8].try_into().expect("four bytes"))),
+        (6, _) => {
+            let count = usize::from(half(r, 2));
+            let items: Vec<&[u8]> = records.get(16..16 + 16 * count)?.chunks(16).collect();
+            let whole = items.iter().all(|item| item[0] == 7);
+            let fader = |i: &&[u8]| LiveFader {
+                number: i[1],
+                target: half(i, 2),
+                label: half(i, 4),
+                group: half(i, 6),
+                mute: half(i, 8),
+            };
+            let list = match kind {
+                CallKind::LiveFaders => Answer::Faders(items.iter().map(fader).collect()),
+                _ => Answer::Names(items.iter().map(|item| half(item, 2)).collect()),
+            };
+            return whole.then_some((list, 1 + count));
+        }
+        _ => return None,
+    };
+    Some((one, 1))
+}
+
+/// What the safe functions say to an event, with the recording's answers one by one.
+fn safe_outcome(bridge: &mut Bridge, event: &Event, mut answers: &[u8]) -> String {
+    let mut step = bridge.begin(event);
+    loop {
+        let waiting = match step {
+            Step::Done(done) => return format!("{done:?}"),
+            Step::Refused(refused) => return format!("{refused:?}"),
+            Step::Waiting(waiting) => waiting,
+        };
+        if answers.is_empty() {
+            return format!("{:?}", waiting.call());
+        }
+        // What no `Answer` says is cut short or fits no call.
+        let Some((given, count)) = answer(waiting.call().kind, answers) else { return format!("{:?}", Refused(14)) };
+        answers = &answers[16 * count..];
+        step = waiting.answer(&given);
+    }
+}
+
+/// Takes the step on both sides.
+fn same_step(bridge: &mut Bridge, s: &mut Session, profile: &[u8], step: &recording::Step) {
     if step.kind == Kind::Restore {
         let restored = raw::restore(s, profile, &step.record);
         *s = restored.session;
         assert_eq!(bridge.restore(&step.record).map_or_else(|refused| refused.0, |()| 0), restored.why);
     } else if let Some(event) = event(&step.record) {
-        let safe = bridge.offer(&event, &step.answers);
-        assert_eq!(format!("{safe:?}"), format!("{:?}", outcome(s, profile, step)));
+        assert_eq!(safe_outcome(bridge, &event, &step.answers), outcome(s, profile, step));
     }
     let mut out = [0; raw::SAVED_BYTES];
     let saved = raw::save(s, profile, &mut out);

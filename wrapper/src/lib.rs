@@ -8,10 +8,12 @@ mod event;
 pub mod raw;
 mod records;
 mod refused;
+mod session;
 
 pub use event::{Done, Step, Waiting};
 pub use records::{Answer, Call, CallKind, Event, Input, LiveFader, ABSENT};
 pub use refused::Refused;
+pub use session::{Flash, FlashLamps, Session, Silenced, WaitingMove, WaitingTurns};
 
 // The example of README.md is compiled with the tests.
 #[cfg(doctest)]
@@ -47,6 +49,11 @@ impl Bridge {
         // No number can refuse it: the profile was examined, and the session is the bridge's own.
         let saved = raw::save(&self.session, &self.profile, &mut out);
         out[..8 * saved.count].to_vec()
+    }
+
+    /// A look at what the bridge keeps.
+    pub fn session(&self) -> Session<'_> {
+        Session::new(&self.profile, &self.session)
     }
 
     /// Begins an event. Until it ends it borrows the bridge, so that nothing else can come between: answers have no

@@ -4,6 +4,8 @@
 //! event asks for, and sends the messages that come back to the surface. `examples/host.rs` is a whole start.
 
 mod event;
+mod fields;
+mod profile;
 #[doc(hidden)]
 pub mod raw;
 mod records;
@@ -11,6 +13,8 @@ mod refused;
 mod session;
 
 pub use event::{Done, Step, Waiting};
+pub use fields::{check, Fault, RecordKind, Value};
+pub use profile::{Bank, Button, Control, DefaultButton, Part, Profile, Rec, Scene, Select, Transport};
 pub use records::{Answer, Call, CallKind, Event, Input, LiveFader, ABSENT};
 pub use refused::Refused;
 pub use session::{Flash, FlashLamps, Session, Silenced, WaitingMove, WaitingTurns};

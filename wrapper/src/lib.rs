@@ -5,6 +5,7 @@
 
 mod event;
 mod fields;
+mod names;
 mod profile;
 #[doc(hidden)]
 pub mod raw;
@@ -14,6 +15,7 @@ mod session;
 
 pub use event::{Done, Step, Waiting};
 pub use fields::{check, Fault, RecordKind, Value};
+pub use names::{Names, NamesFault, NamesFull, NamesWhy};
 pub use profile::{Bank, Button, Control, DefaultButton, Part, Profile, Rec, Scene, Select, Transport};
 pub use records::{Answer, Call, CallKind, Event, Input, LiveFader, ABSENT};
 pub use refused::Refused;

@@ -3,6 +3,8 @@
 //! The host has the MIDI ports and the devices. It begins each event with [`Bridge::begin`], makes the calls that the
 //! event asks for, and sends the messages that come back to the surface. `examples/host.rs` is a whole start.
 
+#![deny(missing_docs)]
+
 mod event;
 mod fields;
 mod names;

@@ -11,9 +11,11 @@ pub const ABSENT: u16 = 65_535;
 pub struct Event<'a> {
     /// In seconds, by a clock that the host keeps for all events.
     pub time: f64,
+    /// What happened.
     pub input: Input<'a>,
 }
 
+/// What can happen: a message of the surface, or one of four things that the host makes itself.
 #[derive(Debug, Clone, Copy, PartialEq, Eq)]
 pub enum Input<'a> {
     /// A message of the surface. One of more than three bytes is refused (10).
@@ -29,6 +31,7 @@ pub enum Input<'a> {
 }
 
 impl Event<'_> {
+    /// The event's bytes.
     pub fn record(&self) -> [u8; 16] {
         let mut record = [0; 16];
         let (kind, message): (u8, &[u8]) = match self.input {
@@ -48,6 +51,7 @@ impl Event<'_> {
     }
 }
 
+/// What a device is to do or to tell.
 #[derive(Debug, Clone, Copy, PartialEq, Eq)]
 pub enum CallKind {
     /// Make ready; before the first use of a driver, and again until it is answered done.
@@ -89,6 +93,7 @@ const CALL_KINDS: [CallKind; 10] = [
 /// What the bridge asks of a device.
 #[derive(Debug, Clone, Copy, PartialEq)]
 pub struct Call {
+    /// What it is to do or to tell.
     pub kind: CallKind,
     /// 0 to 15.
     pub driver: u8,
@@ -150,10 +155,15 @@ pub enum Answer {
 /// A fader of a live list. Only the mute may be [`ABSENT`].
 #[derive(Debug, Clone, Copy, PartialEq, Eq)]
 pub struct LiveFader {
+    /// Rising through the list. The bridge keeps those of 1 to 8.
     pub number: u8,
+    /// Which level of the device.
     pub target: u16,
+    /// What it is called; 0: as its target.
     pub label: u16,
+    /// A solo silences the others of its group.
     pub group: u16,
+    /// Which parameter of the device mutes it, or [`ABSENT`].
     pub mute: u16,
 }
 

@@ -76,13 +76,22 @@ impl Bridge {
     /// # }
     /// ```
     ///
-    /// Nor can a restore come between, and an answer that was given is not given again:
+    /// Nor can a restore or another profile come between, and an answer that was given is not given again:
     ///
     /// ```compile_fail,E0499
     /// # use zelwydro::{Answer, Bridge, Event, Step};
     /// # fn between(bridge: &mut Bridge, moved: &Event) {
     /// let Step::Waiting(waiting) = bridge.begin(moved) else { return };
     /// let _ = bridge.restore(&[]);
+    /// let _ = waiting.answer(&Answer::Done);
+    /// # }
+    /// ```
+    ///
+    /// ```compile_fail,E0506
+    /// # use zelwydro::{Answer, Bridge, Event, Step};
+    /// # fn between(bridge: &mut Bridge, other: Bridge, moved: &Event) {
+    /// let Step::Waiting(waiting) = bridge.begin(moved) else { return };
+    /// *bridge = other;
     /// let _ = waiting.answer(&Answer::Done);
     /// # }
     /// ```

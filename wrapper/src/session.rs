@@ -22,7 +22,8 @@ pub struct WaitingMove {
     pub position: f64,
 }
 
-/// An encoder's turns that wait for the next tick. They go to what the encoder controlled when it was turned.
+/// An encoder's turns that wait for the next tick. They go to what the encoder controlled when it was turned. Encoders
+/// that control the same have one sum, under the one that was turned first.
 #[derive(Debug, Clone, Copy, PartialEq, Eq)]
 pub struct WaitingTurns {
     /// The bank whose encoder it is, or none if it is one of the globals.
@@ -115,7 +116,7 @@ impl<'b> Session<'b> {
         line.list.iter().take(line.count).map(|m| WaitingMove { fader: m.channel + 1, position: m.level })
     }
 
-    /// The turns that wait for the next tick, by the first turn of each encoder.
+    /// The turns that wait for the next tick, in the order of the first turns.
     pub fn waiting_turns(&self) -> impl Iterator<Item = WaitingTurns> + 'b {
         let (turns, profile) = (&self.kept.turns, self.profile);
         turns.records.iter().zip(&turns.sums).take(turns.count).map(move |(&k, &detents)| {

@@ -62,6 +62,16 @@ fn moves_and_turns_wait_for_the_tick() {
 }
 
 #[test]
+fn encoders_that_control_the_same_have_one_sum() {
+    let encoders = [control(3, 0, 1, [3, 7, ABSENT]), control(3, 0, 2, [3, 7, ABSENT])];
+    let mut rig = Rig::new(&[&[settings(0), bank(0, 3)][..], &encoders].concat(), &[(7, 0.5)]);
+    rig.offer(Input::Midi(&[0xb0, 0x11, 1]));
+    rig.offer(Input::Midi(&[0xb0, 0x10, 2]));
+    let turns: Vec<WaitingTurns> = rig.bridge.session().waiting_turns().collect();
+    assert_eq!(turns, [WaitingTurns { bank: Some(0), encoder: 2, detents: 3 }]);
+}
+
+#[test]
 fn a_solo_keeps_what_it_silenced() {
     let mut rig = rig();
     rig.press(SOLO);

@@ -91,22 +91,34 @@ fn answer(kind: CallKind, records: &[u8]) -> Option<(Answer, usize)> {
     Some((one, 1))
 }
 
-/// What the safe functions say to an event, with the recording's answers one by one.
-fn safe_outcome(bridge: &mut Bridge, event: &Event, mut answers: &[u8]) -> String {
+/// The event with the recording's answers one by one, as far as they go. None where one of them is what no `Answer`
+/// says: it is cut short or fits no call.
+fn answered<'b>(bridge: &'b mut Bridge, event: &Event, mut answers: &[u8]) -> Option<Step<'b>> {
     let mut step = bridge.begin(event);
-    loop {
-        let waiting = match step {
-            Step::Done(done) => return format!("{done:?}"),
-            Step::Refused(refused) => return format!("{refused:?}"),
-            Step::Waiting(waiting) => waiting,
-        };
-        if answers.is_empty() {
-            return format!("{:?}", waiting.call());
-        }
-        // What no `Answer` says is cut short or fits no call.
-        let Some((given, count)) = answer(waiting.call().kind, answers) else { return format!("{:?}", Refused(14)) };
+    while !answers.is_empty() {
+        let Step::Waiting(waiting) = step else { break };
+        let (given, count) = answer(waiting.call().kind, answers)?;
         answers = &answers[16 * count..];
         step = waiting.answer(&given);
+    }
+    Some(step)
+}
+
+/// What the safe functions say to an event.
+fn safe_outcome(bridge: &mut Bridge, event: &Event, answers: &[u8]) -> String {
+    match answered(bridge, event, answers) {
+        Some(Step::Done(done)) => format!("{done:?}"),
+        Some(Step::Refused(refused)) => format!("{refused:?}"),
+        Some(Step::Waiting(waiting)) => format!("{:?}", waiting.call()),
+        None => format!("{:?}", Refused(14)),
+    }
+}
+
+/// Wherever an event waits, refusals bring it to its end.
+fn can_be_ended(mut bridge: Bridge, event: &Event, answers: &[u8]) {
+    if let Some(Step::Waiting(waiting)) = answered(&mut bridge, event, answers) {
+        let done = waiting.refuse_rest().expect("a refusal fits every call");
+        assert!(done.calls.len() <= 337);
     }
 }
 
@@ -117,6 +129,8 @@ fn same_step(bridge: &mut Bridge, s: &mut Session, profile: &[u8], step: &record
         *s = restored.session;
         assert_eq!(bridge.restore(&step.record).map_or_else(|refused| refused.0, |()| 0), restored.why);
     } else if let Some(event) = event(&step.record) {
+        can_be_ended(bridge.clone(), &event, &[]);
+        can_be_ended(bridge.clone(), &event, &step.answers);
         assert_eq!(safe_outcome(bridge, &event, &step.answers), outcome(s, profile, step));
     }
     let mut out = [0; raw::SAVED_BYTES];

@@ -74,6 +74,14 @@ fn edited(profile: &[u8], random: &mut Random) -> Vec<u8> {
     edited
 }
 
+/// The archive finds the fault in the records up to the one that is told, and, but for the order, none before it: a bank
+/// can be missing that stands behind.
+fn in_place(profile: &[u8]) {
+    let Err(Fault { refused: Refused(number), record: Some(k), .. }) = check(profile) else { return };
+    assert_eq!(examine(&profile[..32 * (k + 1)]), number, "{profile:02x?}");
+    assert!(number == 3 || examine(&profile[..32 * k]) != number, "{profile:02x?}");
+}
+
 #[test]
 fn random_edits_have_the_archives_numbers() {
     let mut random = Random::new(20_000_003);
@@ -83,6 +91,7 @@ fn random_edits_have_the_archives_numbers() {
         for _ in 0..400 {
             let edited = edited(profile, &mut random);
             agrees(&edited);
+            in_place(&edited);
             numbers[usize::from(examine(&edited))] += 1;
         }
     }
@@ -110,6 +119,60 @@ fn the_examples_faults_have_their_places() {
     let told = "record 2, scene: bank is 1: refused (3): records of the profile are out of order";
     assert!(refused[4].to_string().starts_with(told), "{}", refused[4]);
     assert!(refused[0].to_string().starts_with("length is 31: refused (1)"));
+}
+
+/// Record of `stage`, where a byte is changed, to what, and the field that this is. `ff` changes two.
+const BROKEN: [(usize, usize, u8, &str); 37] = [
+    (0, 0, 7, "kind"),
+    (0, 1, 1, "unused"),
+    (0, 2, 2, "positions"),
+    (0, 3, 2, "remember"),
+    (0, 31, 9, "unused"),
+    (1, 1, 16, "number"),
+    (1, 3, 1, "unused"),
+    (1, 4, 0xff, "name"),
+    (1, 6, 16, "driver"),
+    (1, 7, 1, "driver"),
+    (1, 10, 3, "rec"),
+    (1, 11, 2, "select"),
+    (1, 12, 1, "unused"),
+    (3, 1, 16, "bank"),
+    (3, 2, 0, "number"),
+    (3, 2, 17, "number"),
+    (3, 3, 2, "takeover"),
+    (3, 5, 1, "driver"),
+    (3, 8, 0xff, "label"),
+    (3, 10, 0xff, "group"),
+    (3, 15, 1, "unused"),
+    (5, 2, 9, "number"),
+    (6, 1, 255, "bank"),
+    (6, 2, 1, "unused"),
+    (6, 4, 0xff, "name"),
+    (6, 6, 1, "unused"),
+    (8, 1, 16, "bank"),
+    (8, 2, 16, "button"),
+    (8, 3, 1, "unused"),
+    (8, 4, 16, "driver"),
+    (8, 8, 0xff, "command"),
+    (8, 31, 1, "unused"),
+    (9, 1, 16, "driver"),
+    (9, 2, 16, "button"),
+    (9, 3, 1, "unused"),
+    (9, 4, 0xff, "command"),
+    (9, 6, 1, "unused"),
+];
+
+#[test]
+fn each_field_is_told_by_its_name() {
+    let stage = &examples()[1];
+    for (record, at, byte, field) in BROKEN {
+        let mut broken = stage.clone();
+        let size = if byte == 0xff { 2 } else { 1 };
+        broken[32 * record + at..][..size].fill(byte);
+        let fault = check(&broken).expect_err("a fault");
+        assert_eq!((fault.refused.0, fault.record, fault.field), (2, Some(record), field), "{record} {at}");
+        assert_eq!(examine(&broken), 2);
+    }
 }
 
 /// The profile `stage` of docs/FORMATS.md.

@@ -44,7 +44,7 @@ dist: $(ARCHIVE)
 	    LIBDIR='/$(NAME)/lib' INCLUDEDIR='/$(NAME)/include' DOCDIR='/$(NAME)/share/doc/zelwydro'
 	$(INSTALL) -m 644 LICENSE NOTICE '$(DIST)/$(NAME)'
 	$(INSTALL) -d '$(DIST)/$(NAME)/rust' '$(DIST)/$(NAME)/target/staticlib'
-	cp -R wrapper/Cargo.toml wrapper/build.rs wrapper/src '$(DIST)/$(NAME)/rust'
+	cp -R wrapper/Cargo.toml wrapper/build.rs wrapper/src wrapper/examples '$(DIST)/$(NAME)/rust'
 	ln -s ../../lib/libzelwydro.a '$(DIST)/$(NAME)/target/staticlib/libhost.a'
 	tar --sort=name --owner=0 --group=0 --numeric-owner --mode=u=rwX,go=rX --mtime='@$(SOURCE_DATE_EPOCH)' -C '$(DIST)' \
 	    -cf '$(DIST)/$(NAME).tar' '$(NAME)'

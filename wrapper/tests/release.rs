@@ -187,8 +187,10 @@ fn the_tar_runs_from_wherever_it_is_unpacked() {
     let list = ran(Command::new("tar").args(["--utc", "-tvzf"]).arg(tar(&made)));
     assert!(list.lines().all(|line| line.contains(" 0/0 ") && line.contains(" 1970-01-02 00:00 ")), "{list}");
     ran(Command::new("tar").arg("-xzf").arg(tar(&made)).arg("-C").arg(&elsewhere));
-    let rust = ["Cargo.toml", "build.rs"].map(String::from).into_iter();
-    let rust = rust.chain(files(&Path::new(ROOT).join("wrapper/src")).into_iter().map(|file| format!("src/{file}")));
+    let of = |from: &'static str| {
+        files(&Path::new(ROOT).join("wrapper").join(from)).into_iter().map(move |file| format!("{from}/{file}"))
+    };
+    let rust = ["Cargo.toml", "build.rs"].map(String::from).into_iter().chain(of("src")).chain(of("examples"));
     let own = ["LICENSE", "NOTICE", "target/staticlib/libhost.a"].into_iter().chain(installed()).map(String::from);
     let expected = own.chain(rust.map(|file| format!("rust/{file}"))).map(|file| format!("{name}/{file}"));
     assert_eq!(files(&elsewhere), BTreeSet::from_iter(expected).into_iter().collect::<Vec<_>>());

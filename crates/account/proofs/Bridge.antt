@@ -23,7 +23,7 @@ use Rattle.lookup.specs.declared.Destination.{Destination}
 use Rattle.drivers.specs.Talk.{Talk, Reply, start, Got, next, plain_call, write_call, use_done, read_of, write_of}
 use Rattle.drivers.specs.Paired.{Asked, paired}
 use Rattle.drivers.specs.declared.Call.{Call}
-use Rattle.session.specs.Session.{Turn, Hushed, targets_of, is_marked, last_move, place_move, add_to, turn, strip_at, same_strip, same_at, same_strips}
+use Rattle.session.specs.Session.{Turn, SilencedLevel, targets_of, is_marked, last_move, place_move, add_to, turn, strip_at, same_strip, same_at, same_strips}
 use Rattle.session.specs.declared.Move.{Move}
 use Rattle.session.specs.declared.Strip.{Strip}
 use Rattle.session.specs.declared.Lamps.{Lamps}
@@ -329,7 +329,7 @@ lives_after_lem true now x w h = record { bank = h.bank; lives = go x.changed }
     go true = length-set w.lives w.bank (Some x.strips) ∙ h.lives
     go false = h.lives
 
-module _ (v : View) (i : ℕ) (w : Site) (l : Lamps) (s : List Hushed) (a : Account) (answers : List ℕ) (now : Float) (few : v.banks ≤ 16) (there : Placed w) where
+module _ (v : View) (i : ℕ) (w : Site) (l : Lamps) (s : List SilencedLevel) (a : Account) (answers : List ℕ) (now : Float) (few : v.banks ≤ 16) (there : Placed w) where
   -- the session that the account stands for
   abbrev pub kept_of : Kept
   kept_of = kept w (desk_of a) l s a.opened

@@ -17,7 +17,7 @@ use Rattle.lookup.specs.declared.Destination.{Destination}
 use Rattle.drivers.specs.Answers.{is_done}
 use Rattle.drivers.specs.Talk.{Talk, Reply, Act, next, ◌>>=◌, plain_call, write_call, use_done, write_of, toggle_of, command_of, scenes_of, current_of, load_of}
 use Rattle.drivers.specs.Paired.{Asked, paired}
-use Rattle.session.specs.Session.{Hushed, targets_of, is_hushed, scene_at, solo_to, none_noted, loaded_by}
+use Rattle.session.specs.Session.{SilencedLevel, targets_of, is_silenced, scene_at, solo_to, none_noted, loaded_by}
 use Rattle.session.specs.declared.Lamps.{Lamps}
 use Rattle.session.specs.declared.Moves.{Moves}
 use Rattle.definition.specs.Rig.{Rig, Here, destination, device, bank_driver}
@@ -211,27 +211,27 @@ unfolding toggle_of plain_call
 makes_toggle driver name = makes_done refl (plain_call 3 driver name 0) refl refl
 
 -- mute and solo
-makes_back : (d : Destination) (s : List Hushed) → Asks not_load (hand_back d s)
+makes_back : (d : Destination) (s : List SilencedLevel) → Asks not_load (hand_back d s)
 unfolding hand_back
 makes_back d s = giving (line_of (makes_write d _))
 
-makes_keep : (d : Destination) (s : List Hushed) → Asks not_load (keep_level d s)
+makes_keep : (d : Destination) (s : List SilencedLevel) → Asks not_load (keep_level d s)
 unfolding keep_level
 makes_keep d s = bind (makes_read refl refl d) (λ l. still)
 
-makes_zeroed : (d : Destination) (s : List Hushed) → Asks not_load (zeroed d s)
+makes_zeroed : (d : Destination) (s : List SilencedLevel) → Asks not_load (zeroed d s)
 unfolding zeroed
 makes_zeroed d s = bind (makes_keep d s) (λ k. giving (line_of (makes_write_of d.driver d.target _)))
 
-makes_mute_if : (b : Bool) (d : Destination) (s : List Hushed) → Asks not_load (mute_if b d s)
+makes_mute_if : (b : Bool) (d : Destination) (s : List SilencedLevel) → Asks not_load (mute_if b d s)
 makes_mute_if true d s = giving (line_of (makes_toggle d.driver d.mute))
-makes_mute_if false d s = go (is_hushed (kept_by d) (targets_of s))
+makes_mute_if false d s = go (is_silenced (kept_by d) (targets_of s))
   where
     go : (b : Bool) → Asks not_load (mute_level b d s)
     go true = makes_back d s
     go false = makes_zeroed d s
 
-makes_mute_to : (f : Option Destination) (r : Rig) (l : Lamps) (s : List Hushed) → Asks not_load (mute_to f r l s)
+makes_mute_to : (f : Option Destination) (r : Rig) (l : Lamps) (s : List SilencedLevel) → Asks not_load (mute_to f r l s)
 makes_mute_to (Some d) r l s = bind (makes_mute_if (has_mute d) d s) (λ k. giving (makes_push refl refl r l (targets_of k)))
 makes_mute_to None r l s = still
 
@@ -247,19 +247,19 @@ makes_set_mute : (d : Destination) (b : Bool) → Makes not_load (set_mute d b)
 unfolding set_mute
 makes_set_mute d b = onto (makes_read_mute refl refl d) (λ o. makes_toggle_if o b d)
 
-makes_back_if : (b : Bool) (d : Destination) (s : List Hushed) → Asks not_load (back_if b d s)
+makes_back_if : (b : Bool) (d : Destination) (s : List SilencedLevel) → Asks not_load (back_if b d s)
 makes_back_if true d s = makes_back d s
 makes_back_if false d s = still
 
-makes_off_if : (b : Bool) (d : Destination) (was : Bool) (s : List Hushed) → Asks not_load (off_if b d was s)
+makes_off_if : (b : Bool) (d : Destination) (was : Bool) (s : List SilencedLevel) → Asks not_load (off_if b d was s)
 makes_off_if true d was s = giving (makes_set_mute d was)
-makes_off_if false d was s = makes_back_if (is_hushed (kept_by d) (targets_of s)) d s
+makes_off_if false d was s = makes_back_if (is_silenced (kept_by d) (targets_of s)) d s
 
-makes_off_to : (f : Option Destination) (was : Bool) (s : List Hushed) → Asks not_load (off_to f was s)
+makes_off_to : (f : Option Destination) (was : Bool) (s : List SilencedLevel) → Asks not_load (off_to f was s)
 makes_off_to (Some d) was s = makes_off_if (has_mute d) d was s
 makes_off_to None was s = still
 
-makes_solo_off : (r : Rig) (group : ℕ) (l : Lamps) (n : ℕ) (s : List Hushed) → Asks not_load (solo_off (peer r group) l n s)
+makes_solo_off : (r : Rig) (group : ℕ) (l : Lamps) (n : ℕ) (s : List SilencedLevel) → Asks not_load (solo_off (peer r group) l n s)
 unfolding solo_off
 makes_solo_off r group l zero s = still
 makes_solo_off r group l (suc n) s = bind (makes_solo_off r group l n s) (λ k. makes_off_to (peer r group (n + 1)) _ k)
@@ -273,43 +273,43 @@ makes_note_if : (b : Bool) (r : Rig) (group : ℕ) (ts : List ℕ) (l : Lamps) �
 makes_note_if true r group ts l = makes_notes r group ts 16 l
 makes_note_if false r group ts l = still
 
-makes_silence_if : (b : Bool) (d : Destination) (s : List Hushed) → Asks not_load (silence_if b d s)
+makes_silence_if : (b : Bool) (d : Destination) (s : List SilencedLevel) → Asks not_load (silence_if b d s)
 makes_silence_if true d s = giving (line_of (makes_write d _))
 makes_silence_if false d s = bind (makes_keep d s) (λ k. giving (line_of (makes_write d _)))
 
-makes_on_if : (b : Bool) (d : Destination) (silence : Bool) (s : List Hushed) → Asks not_load (on_if b d silence s)
+makes_on_if : (b : Bool) (d : Destination) (silence : Bool) (s : List SilencedLevel) → Asks not_load (on_if b d silence s)
 makes_on_if true d silence s = giving (makes_set_mute d silence)
 makes_on_if false d silence s = go silence
   where
     go : (b : Bool) → Asks not_load (on_level b d s)
-    go true = makes_silence_if (is_hushed (kept_by d) (targets_of s)) d s
-    go false = makes_back_if (is_hushed (kept_by d) (targets_of s)) d s
+    go true = makes_silence_if (is_silenced (kept_by d) (targets_of s)) d s
+    go false = makes_back_if (is_silenced (kept_by d) (targets_of s)) d s
 
-makes_on_to : (f : Option Destination) (silence : Bool) (s : List Hushed) → Asks not_load (on_to f silence s)
+makes_on_to : (f : Option Destination) (silence : Bool) (s : List SilencedLevel) → Asks not_load (on_to f silence s)
 makes_on_to (Some d) silence s = makes_on_if (has_mute d) d silence s
 makes_on_to None silence s = still
 
-makes_solo_on : (r : Rig) (group fader n : ℕ) (s : List Hushed) → Asks not_load (solo_on (peer r group) fader n s)
+makes_solo_on : (r : Rig) (group fader n : ℕ) (s : List SilencedLevel) → Asks not_load (solo_on (peer r group) fader n s)
 unfolding solo_on
 makes_solo_on r group fader zero s = still
 makes_solo_on r group fader (suc n) s = bind (makes_solo_on r group fader n s) (λ k. makes_on_to (peer r group (n + 1)) _ k)
 
-makes_solo_if : (b : Bool) (r : Rig) (group fader : ℕ) (l : Lamps) (s : List Hushed) → Asks not_load (solo_if b r group fader l s)
+makes_solo_if : (b : Bool) (r : Rig) (group fader : ℕ) (l : Lamps) (s : List SilencedLevel) → Asks not_load (solo_if b r group fader l s)
 makes_solo_if true r group fader l s =
     bind (makes_solo_off r group l 16 s) (λ k. giving (makes_push refl refl r (solo_to 0 (none_noted l)) (targets_of k)))
 makes_solo_if false r group fader l s =
     bind (makes_note_if (eqb l.soloed 0) r group (targets_of s) l)
     (λ n. bind (makes_solo_on r group fader 16 s) (λ k. giving (makes_push refl refl r (solo_to fader n) (targets_of k))))
 
-makes_solo_with : (f : Option Destination) (r : Rig) (fader : ℕ) (l : Lamps) (s : List Hushed) → Asks not_load (solo_with f r fader l s)
+makes_solo_with : (f : Option Destination) (r : Rig) (fader : ℕ) (l : Lamps) (s : List SilencedLevel) → Asks not_load (solo_with f r fader l s)
 makes_solo_with (Some d) r fader l s = makes_solo_if (eqb l.soloed fader) r d.group fader l s
 makes_solo_with None r fader l s = still
 
-makes_mute : (r : Rig) (n : ℕ) (l : Lamps) (s : List Hushed) → Asks not_load (mute r n l s)
+makes_mute : (r : Rig) (n : ℕ) (l : Lamps) (s : List SilencedLevel) → Asks not_load (mute r n l s)
 unfolding mute
 makes_mute r n l s = makes_mute_to (destination r n) r l s
 
-makes_solo : (r : Rig) (n : ℕ) (l : Lamps) (s : List Hushed) → Asks not_load (solo r n l s)
+makes_solo : (r : Rig) (n : ℕ) (l : Lamps) (s : List SilencedLevel) → Asks not_load (solo r n l s)
 unfolding solo
 makes_solo r n l s = makes_solo_with (destination r n) r n l s
 

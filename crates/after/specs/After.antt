@@ -3,7 +3,7 @@ use Rattle.std.specs.Prelude.{ℕ, ◌≤◌, ◌≡◌, Bool, true, false, ◌&
 use Rattle.std.specs.Option.{is_some}
 use Rattle.base.specs.Choice.{pick}
 use Rattle.base.specs.Keyed.{all_of}
-use Rattle.session.specs.Session.{is_encoder, no_marks, unmark_bank, Hushed, seen_strips, strips_or, seen_silenced}
+use Rattle.session.specs.Session.{is_encoder, no_marks, unmark_bank, SilencedLevel, seen_strips, strips_or, seen_silenced}
 use Rattle.session.specs.declared.Session.{Session}
 use Rattle.session.specs.declared.Lamps.{Lamps}
 use Rattle.session.specs.declared.Marks.{Marks}
@@ -77,7 +77,7 @@ drained_if true d = drained d
 drained_if false d = d
 
 -- what the definition sees of it: `ticks` and `due` as they were before the event, l and s the lamps' state and what is silenced after it
-unfoldable pub left_of : Kept → Bool → Bool → Float → declared.Left → Lamps → List Hushed → Left
+unfoldable pub left_of : Kept → Bool → Bool → Float → declared.Left → Lamps → List SilencedLevel → Left
 left_of k ticks due now x l s =
     left
     (site x.bank (due_after x.moved (pick (ticks && due) false k.site.due)) (pick (ticks && due) now k.site.at)

@@ -20,7 +20,7 @@ use surface::lamps::push_state;
 // Shows the number of the current bank.
 #[tactic(auto, unfolding(definition::specs::Flash::flash_bank))]
 pub fn flash_bank(io: &mut Io<'_>, here: &Current<'_>, panel: &mut Panel<'_>)
-    ensures value { got panel.new.lamps (shown io.new) ≡ flash_bank (rig_in here.now) panel.old.hushed.now panel.old.moves.now panel.old.time panel.old.lamps (shown io.old) }
+    ensures value { got panel.new.lamps (shown io.new) ≡ flash_bank (rig_in here.now) panel.old.silenced_targets.now panel.old.moves.now panel.old.time panel.old.lamps (shown io.old) }
     ensures rest { LampsAlone panel.old panel.new }
 {
     flash_number(io, here, panel, usize::from(here.bank), protocol::REC);
@@ -28,10 +28,10 @@ pub fn flash_bank(io: &mut Io<'_>, here: &Current<'_>, panel: &mut Panel<'_>)
 
 // The bank's lamps, then its number.
 pub fn select_bank(io: &mut Io<'_>, there: &Current<'_>, panel: &mut Panel<'_>)
-    ensures value { got panel.new.lamps (shown io.new) ≡ flash_bank (rig_in there.now) panel.old.hushed.now panel.old.moves.now panel.old.time panel.old.lamps (push_state (rig_in there.now) panel.old.lamps panel.old.hushed.now (shown io.old)) }
+    ensures value { got panel.new.lamps (shown io.new) ≡ flash_bank (rig_in there.now) panel.old.silenced_targets.now panel.old.moves.now panel.old.time panel.old.lamps (push_state (rig_in there.now) panel.old.lamps panel.old.silenced_targets.now (shown io.old)) }
     ensures rest { LampsAlone panel.old panel.new }
 {
-    push_state(io, there, &panel.lamps, panel.hushed);
+    push_state(io, there, &panel.lamps, panel.silenced_targets);
     flash_bank(io, there, panel);
 }
 
@@ -53,7 +53,7 @@ pub fn next_bank(profile: &[u8], bank: u8, right: bool) -> u8
 
 // One bank on: `there` is the next bank on that side, which at an end is the current one, and then nothing happens. Whether it was selected.
 pub fn step_bank(io: &mut Io<'_>, bank: u8, there: &Current<'_>, panel: &mut Panel<'_>) -> bool
-    ensures value { got (selected_as there.now.bank panel.new.lamps result) (shown io.new) ≡ select_if (eqb there.now.bank bank) (λ _. rig_in there.now) bank there.now.bank panel.old.hushed.now panel.old.moves.now panel.old.time panel.old.lamps (shown io.old) }
+    ensures value { got (selected_as there.now.bank panel.new.lamps result) (shown io.new) ≡ select_if (eqb there.now.bank bank) (λ _. rig_in there.now) bank there.now.bank panel.old.silenced_targets.now panel.old.moves.now panel.old.time panel.old.lamps (shown io.old) }
     ensures rest { LampsAlone panel.old panel.new }
 {
     if there.bank == bank {

@@ -11,7 +11,7 @@ use Rattle.base.specs.Keyed.{all_of, no_twice, beside}
 use Rattle.base.proofs.Pigeon.{left_of_lem, right_of}
 use Rattle.profile.specs.Profile.{records, is_kind, bank_count, verdict}
 use Rattle.lookup.specs.View.{view_of}
-use Rattle.session.specs.Session.{turn_at, seen_line, is_encoder, hushed_at, seen_strips, strips_or, strips_if, good_strip, same_number}
+use Rattle.session.specs.Session.{turn_at, seen_line, is_encoder, silenced_at, seen_strips, strips_or, strips_if, good_strip, same_number}
 use Rattle.session.specs.WellLists.{WellLine, WellStrips}
 use Rattle.session.proofs.SessionLaws.{no_strips_lem}
 use Rattle.session.specs.declared.Session.{Session}
@@ -95,7 +95,7 @@ well_seen p s o e =
       wired = turns_wired p (take t.count t.records) (take t.count t.sums) (every-at _ 1 (every-at _ 3 e));
       sums = every-at _ 2 (every-at _ 3 e);
       destinations = every-at _ 3 (every-at _ 3 e);
-      held = omega (arith, m, beside_short hushed_at (take h.count h.targets) (take h.count h.levels), length-take h.count h.targets);
+      held = omega (arith, m, beside_short silenced_at (take h.count h.targets) (take h.count h.levels), length-take h.count h.targets);
       targets = and_right (leb h.count 256) _ (every-at _ 4 e);
       flash = every-at _ 5 e;
       opened = o;

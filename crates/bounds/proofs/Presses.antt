@@ -14,7 +14,7 @@ use Rattle.lookup.specs.Lookup.{transport_of, bound_by, of_kind, before}
 use Rattle.lookup.specs.declared.Destination.{Destination}
 use Rattle.lookup.specs.declared.Entry.{Entry}
 use Rattle.drivers.specs.Talk.{Talk, Act, next, plain_call, toggle_of, command_of, scenes_of, current_of, load_of, open_for}
-use Rattle.session.specs.Session.{Hushed, targets_of, is_hushed, scene_at, solo_to, none_noted, loaded_by}
+use Rattle.session.specs.Session.{SilencedLevel, targets_of, is_silenced, scene_at, solo_to, none_noted, loaded_by}
 use Rattle.session.specs.declared.Lamps.{Lamps}
 use Rattle.session.specs.declared.Moves.{Moves}
 use Rattle.definition.specs.Rig.{Rig, destination, device, bank_driver}
@@ -89,25 +89,25 @@ module _ {D : ℕ → Type 0} (R : Rules D) where
   load_takes driver i d = takes_done R (plain_call 8 driver 0 i) d
 
   -- ── mute and solo ──
-  back_takes : (e : Destination) (s : List Hushed) → D e.driver → Takes R 0 1 (hand_back e s)
+  back_takes : (e : Destination) (s : List SilencedLevel) → D e.driver → Takes R 0 1 (hand_back e s)
   unfolding hand_back
   back_takes e s d = giving R (line_of R (takes_write R e _ d))
 
-  keep_takes : (e : Destination) (s : List Hushed) → D e.driver → Takes R 0 1 (keep_level e s)
+  keep_takes : (e : Destination) (s : List SilencedLevel) → D e.driver → Takes R 0 1 (keep_level e s)
   unfolding keep_level
   keep_takes e s d = bind R (takes_read R e d) (λ l. done R)
 
-  zeroed_takes : (e : Destination) (s : List Hushed) → D e.driver → Takes R 0 2 (zeroed e s)
+  zeroed_takes : (e : Destination) (s : List SilencedLevel) → D e.driver → Takes R 0 2 (zeroed e s)
   unfolding zeroed
   zeroed_takes e s d = bind R (keep_takes e s d) (λ k. giving R (line_of R (takes_write_of R e.driver e.target _ d)))
 
-  mute_level_takes : (b : Bool) (e : Destination) (s : List Hushed) → D e.driver → Takes R 0 2 (mute_level b e s)
+  mute_level_takes : (b : Bool) (e : Destination) (s : List SilencedLevel) → D e.driver → Takes R 0 2 (mute_level b e s)
   mute_level_takes true e s d = up_to R (back_takes e s d) (omega arith) (omega arith)
   mute_level_takes false e s d = zeroed_takes e s d
 
-  mute_if_takes : (b : Bool) (e : Destination) (s : List Hushed) → D e.driver → Takes R 0 2 (mute_if b e s)
+  mute_if_takes : (b : Bool) (e : Destination) (s : List SilencedLevel) → D e.driver → Takes R 0 2 (mute_if b e s)
   mute_if_takes true e s d = up_to R (giving R (line_of R (toggle_takes e.driver e.mute d))) (omega arith) (omega arith)
-  mute_if_takes false e s d = mute_level_takes (is_hushed (kept_by e) (targets_of s)) e s d
+  mute_if_takes false e s d = mute_level_takes (is_silenced (kept_by e) (targets_of s)) e s d
 
   toggle_if_costs : (o : Option Bool) (b : Bool) (e : Destination) → D e.driver → Costs R 0 1 (toggle_if o b e)
   toggle_if_costs None b e d = stay R
@@ -121,44 +121,44 @@ module _ {D : ℕ → Type 0} (R : Rules D) where
   unfolding set_mute
   set_mute_costs e b d = onto R (takes_read_mute R e d) (λ o. toggle_if_costs o b e d)
 
-  back_if_takes : (b : Bool) (e : Destination) (s : List Hushed) → D e.driver → Takes R 0 2 (back_if b e s)
+  back_if_takes : (b : Bool) (e : Destination) (s : List SilencedLevel) → D e.driver → Takes R 0 2 (back_if b e s)
   back_if_takes true e s d = up_to R (back_takes e s d) (omega arith) (omega arith)
   back_if_takes false e s d = still R
 
-  off_if_takes : (b : Bool) (e : Destination) (was : Bool) (s : List Hushed) → D e.driver → Takes R 0 2 (off_if b e was s)
+  off_if_takes : (b : Bool) (e : Destination) (was : Bool) (s : List SilencedLevel) → D e.driver → Takes R 0 2 (off_if b e was s)
   off_if_takes true e was s d = giving R (set_mute_costs e was d)
-  off_if_takes false e was s d = back_if_takes (is_hushed (kept_by e) (targets_of s)) e s d
+  off_if_takes false e was s d = back_if_takes (is_silenced (kept_by e) (targets_of s)) e s d
 
-  off_to_takes : (f : Option Destination) (was : Bool) (s : List Hushed) → MayTo D f → Takes R 0 2 (off_to f was s)
+  off_to_takes : (f : Option Destination) (was : Bool) (s : List SilencedLevel) → MayTo D f → Takes R 0 2 (off_to f was s)
   off_to_takes (Some e) was s d = off_if_takes (has_mute e) e was s d
   off_to_takes None was s d = still R
 
-  silence_takes : (b : Bool) (e : Destination) (s : List Hushed) → D e.driver → Takes R 0 2 (silence_if b e s)
+  silence_takes : (b : Bool) (e : Destination) (s : List SilencedLevel) → D e.driver → Takes R 0 2 (silence_if b e s)
   silence_takes true e s d = up_to R (giving R (line_of R (takes_write R e _ d))) (omega arith) (omega arith)
   silence_takes false e s d = bind R (keep_takes e s d) (λ k. giving R (line_of R (takes_write R e _ d)))
 
-  on_level_takes : (b : Bool) (e : Destination) (s : List Hushed) → D e.driver → Takes R 0 2 (on_level b e s)
-  on_level_takes true e s d = silence_takes (is_hushed (kept_by e) (targets_of s)) e s d
-  on_level_takes false e s d = back_if_takes (is_hushed (kept_by e) (targets_of s)) e s d
+  on_level_takes : (b : Bool) (e : Destination) (s : List SilencedLevel) → D e.driver → Takes R 0 2 (on_level b e s)
+  on_level_takes true e s d = silence_takes (is_silenced (kept_by e) (targets_of s)) e s d
+  on_level_takes false e s d = back_if_takes (is_silenced (kept_by e) (targets_of s)) e s d
 
-  on_if_takes : (b : Bool) (e : Destination) (silence : Bool) (s : List Hushed) → D e.driver → Takes R 0 2 (on_if b e silence s)
+  on_if_takes : (b : Bool) (e : Destination) (silence : Bool) (s : List SilencedLevel) → D e.driver → Takes R 0 2 (on_if b e silence s)
   on_if_takes true e silence s d = giving R (set_mute_costs e silence d)
   on_if_takes false e silence s d = on_level_takes silence e s d
 
-  on_to_takes : (f : Option Destination) (silence : Bool) (s : List Hushed) → MayTo D f → Takes R 0 2 (on_to f silence s)
+  on_to_takes : (f : Option Destination) (silence : Bool) (s : List SilencedLevel) → MayTo D f → Takes R 0 2 (on_to f silence s)
   on_to_takes (Some e) silence s d = on_if_takes (has_mute e) e silence s d
   on_to_takes None silence s d = still R
 
   module _ (r : Rig) (to : (n : ℕ) → MayTo D (destination r n)) where
-    mute_to_takes : (f : Option Destination) (l : Lamps) (s : List Hushed) → MayTo D f → Takes R 40 18 (mute_to f r l s)
+    mute_to_takes : (f : Option Destination) (l : Lamps) (s : List SilencedLevel) → MayTo D f → Takes R 40 18 (mute_to f r l s)
     mute_to_takes (Some e) l s d = bind R (mute_if_takes (has_mute e) e s d) (λ k. giving R (push_costs R r to l (targets_of k)))
     mute_to_takes None l s d = still R
 
-    mute_takes : (n : ℕ) (l : Lamps) (s : List Hushed) → Takes R 40 18 (mute r n l s)
+    mute_takes : (n : ℕ) (l : Lamps) (s : List SilencedLevel) → Takes R 40 18 (mute r n l s)
     unfolding mute
     mute_takes n l s = mute_to_takes (destination r n) l s (to n)
 
-    solo_off_takes : (group : ℕ) (l : Lamps) (n : ℕ) (s : List Hushed) → Takes R 0 (n * 2) (solo_off (peer r group) l n s)
+    solo_off_takes : (group : ℕ) (l : Lamps) (n : ℕ) (s : List SilencedLevel) → Takes R 0 (n * 2) (solo_off (peer r group) l n s)
     unfolding solo_off
     solo_off_takes group l zero s = still R
     solo_off_takes group l (suc n) s =
@@ -177,13 +177,13 @@ module _ {D : ℕ → Type 0} (R : Rules D) where
     note_if_takes true group ts l = notes_take group ts 16 l
     note_if_takes false group ts l = still R
 
-    solo_on_takes : (group fader n : ℕ) (s : List Hushed) → Takes R 0 (n * 2) (solo_on (peer r group) fader n s)
+    solo_on_takes : (group fader n : ℕ) (s : List SilencedLevel) → Takes R 0 (n * 2) (solo_on (peer r group) fader n s)
     unfolding solo_on
     solo_on_takes group fader zero s = still R
     solo_on_takes group fader (suc n) s =
         up_to R (bind R (solo_on_takes group fader n s) (λ k. on_to_takes (peer r group (n + 1)) _ k (peer_may D r to group (n + 1)))) (omega arith) (omega arith)
 
-    solo_if_takes : (b : Bool) (group fader : ℕ) (l : Lamps) (s : List Hushed) → Takes R 40 64 (solo_if b r group fader l s)
+    solo_if_takes : (b : Bool) (group fader : ℕ) (l : Lamps) (s : List SilencedLevel) → Takes R 40 64 (solo_if b r group fader l s)
     solo_if_takes true group fader l s =
         up_to R
         (bind R (solo_off_takes group l 16 s) (λ k. giving R (push_costs R r to (solo_to 0 (none_noted l)) (targets_of k))))
@@ -192,11 +192,11 @@ module _ {D : ℕ → Type 0} (R : Rules D) where
         bind R (note_if_takes (eqb l.soloed 0) group (targets_of s) l)
         (λ n. bind R (solo_on_takes group fader 16 s) (λ k. giving R (push_costs R r to (solo_to fader n) (targets_of k))))
 
-    solo_with_takes : (f : Option Destination) (fader : ℕ) (l : Lamps) (s : List Hushed) → Takes R 40 64 (solo_with f r fader l s)
+    solo_with_takes : (f : Option Destination) (fader : ℕ) (l : Lamps) (s : List SilencedLevel) → Takes R 40 64 (solo_with f r fader l s)
     solo_with_takes (Some e) fader l s = solo_if_takes (eqb l.soloed fader) e.group fader l s
     solo_with_takes None fader l s = still R
 
-    solo_takes : (n : ℕ) (l : Lamps) (s : List Hushed) → Takes R 40 64 (solo r n l s)
+    solo_takes : (n : ℕ) (l : Lamps) (s : List SilencedLevel) → Takes R 40 64 (solo r n l s)
     unfolding solo
     solo_takes n l s = solo_with_takes (destination r n) n l s
 

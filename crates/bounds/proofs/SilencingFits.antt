@@ -10,14 +10,14 @@ use Rattle.base.specs.Keyed.{no_twice}
 use Rattle.protocol.specs.Protocol.{kind_of, channel_of}
 use Rattle.drivers.specs.Talk.{Talk, Act, next}
 use Rattle.session.specs.Session.{targets_of}
-use Rattle.session.specs.WellLists.{same_hushed}
+use Rattle.session.specs.WellLists.{same_silenced}
 use Rattle.definition.specs.Muting.{added_by_solo, added_by_mute}
 use Rattle.definition.specs.Buttons.{Press, Pressed, page, walk, command, rec_loads, rec_as, rec, select_as, mute_as, solo_as, or_first, press_of, button, added_by}
 use Rattle.definition.proofs.SilencingLaws.{fits, once_keys, Within, held, mute_so, solo_so}
 
 -- ── any press ──
 
-module _ (p : Press) (o : no_twice same_hushed p.silenced ≡ true) where
+module _ (p : Press) (o : no_twice same_silenced p.silenced ≡ true) where
   abbrev Adds : List ℕ → Act Pressed → Type 0
   Adds adds f = (t : Talk) → Within (targets_of p.silenced ++ adds) (f t).value.silenced
 

@@ -8,7 +8,7 @@ use borrow.Author.Tests.{leb-false}
 use Rattle.base.specs.Choice.{pick}
 use Rattle.protocol.specs.Protocol.{kind_of, channel_of}
 use Rattle.drivers.specs.Talk.{Talk, Act, next}
-use Rattle.session.specs.Session.{Hushed, targets_of, solo_to, none_noted, note_muted, loaded_by, scene_to, scene_unknown, scene_at}
+use Rattle.session.specs.Session.{SilencedLevel, targets_of, solo_to, none_noted, note_muted, loaded_by, scene_to, scene_unknown, scene_at}
 use Rattle.session.specs.declared.Lamps.{Lamps}
 use Rattle.session.specs.declared.Moves.{Moves}
 use Rattle.definition.specs.Rig.{Rig, destination, device}
@@ -31,16 +31,16 @@ module _ (r : Rig) where
   note_if-shaped true group s l t h = notes_shaped group s 16 l t h
   note_if-shaped false group s l t h = h
 
-  solo_if-shaped : (b : Bool) (group fader : ℕ) (l : Lamps) (s : List Hushed) (t : Talk) → Shaped l → Shaped (solo_if b r group fader l s t).value.lamps
+  solo_if-shaped : (b : Bool) (group fader : ℕ) (l : Lamps) (s : List SilencedLevel) (t : Talk) → Shaped l → Shaped (solo_if b r group fader l s t).value.lamps
   unfolding next none_noted solo_to
   solo_if-shaped true group fader l s t h = h
   solo_if-shaped false group fader l s t h = note_if-shaped (eqb l.soloed 0) group (targets_of s) l t h
 
-  solo_with-shaped : (f : Option Destination) (fader : ℕ) (l : Lamps) (s : List Hushed) (t : Talk) → Shaped l → Shaped (solo_with f r fader l s t).value.lamps
+  solo_with-shaped : (f : Option Destination) (fader : ℕ) (l : Lamps) (s : List SilencedLevel) (t : Talk) → Shaped l → Shaped (solo_with f r fader l s t).value.lamps
   solo_with-shaped (Some d) fader l s t h = solo_if-shaped (eqb l.soloed fader) d.group fader l s t h
   solo_with-shaped None fader l s t h = h
 
-  solo-shaped : (n : ℕ) (l : Lamps) (s : List Hushed) (t : Talk) → Shaped l → Shaped (solo r n l s t).value.lamps
+  solo-shaped : (n : ℕ) (l : Lamps) (s : List SilencedLevel) (t : Talk) → Shaped l → Shaped (solo r n l s t).value.lamps
   unfolding solo
   solo-shaped n l s t h = solo_with-shaped (destination r n) n l s t h
 

@@ -14,7 +14,7 @@ use Rattle.lookup.specs.View.{View, view_of}
 use Rattle.drivers.specs.Talk.{Talk, Got, next, start}
 use Rattle.drivers.specs.declared.line.Stop.{Stop}
 use Rattle.drivers.specs.declared.line.Stop.TheVariants.{Going, Waits, Declined, Overrun}
-use Rattle.session.specs.Session.{Hushed, targets_of}
+use Rattle.session.specs.Session.{SilencedLevel, targets_of}
 use Rattle.session.specs.WellLists.{WellStrips}
 use Rattle.session.specs.declared.Strip.{Strip}
 use Rattle.event.specs.declared.Input.{Input}
@@ -39,7 +39,7 @@ use Rattle.bounds.proofs.Silencing.{silenced_so}
 -- ── what an event leaves ──
 
 -- at most 256 targets, none twice
-record WellSilenced (s : List Hushed) : Type 0 where
+record WellSilenced (s : List SilencedLevel) : Type 0 where
   held : length s ≤ 256
   targets : no_twice eqb (targets_of s) ≡ true
 

@@ -11,7 +11,7 @@ use Rattle.protocol.specs.declared.Button.{Button}
 use Rattle.lookup.specs.Lookup.{merged, transports_of}
 use Rattle.lookup.specs.View.{View, view_of}
 use Rattle.drivers.specs.Talk.{Talk, Got, got, next}
-use Rattle.session.specs.Session.{Hushed, targets_of, seen_strips}
+use Rattle.session.specs.Session.{SilencedLevel, targets_of, seen_strips}
 use Rattle.session.specs.declared.Strip.{Strip}
 use Rattle.session.specs.declared.Strips.{Strips}
 use Rattle.session.specs.declared.Lamps.{Lamps}
@@ -43,7 +43,7 @@ after-button x = record { bank = x.bank; strips = None; moved = x.moved; saved =
 no_press : (b : Button) → ◌≡◌ {A = Option Button} None (Some b) → ⊥
 no_press b q = let z : ◌≡◌ {A = Bool} true false = cc in true≢false z
 
-module _ (here there : Current) (l l₁ : Lamps) (s s₁ : List Hushed) (m : Moves) (now : Float) (t u : Talk) where
+module _ (here there : Current) (l l₁ : Lamps) (s s₁ : List SilencedLevel) (m : Moves) (now : Float) (t u : Talk) where
   pub presses : (note : ℕ) (x : buttons.Pressed) → Presses (button note) here there l s m now t x l₁ s₁ u →
       Runs (pressing note) here there l s m now t (after-button x) l₁ s₁ u
   unfolding left_of next
@@ -80,14 +80,14 @@ abbrev pub still_as : Current → Option Strips → declared.Left
 still_as here strips = record { bank = here.bank; strips = strips; moved = false; saved = false }
 
 -- the session as it was, but for the lamps' state
-as_it_was : (k : Kept) (here : Current) (s : List Hushed) (due : Bool) (now : Float) (l : Lamps) → k.site.bank ≡ here.bank → k.silenced ≡ s →
+as_it_was : (k : Kept) (here : Current) (s : List SilencedLevel) (due : Bool) (now : Float) (l : Lamps) → k.site.bank ≡ here.bank → k.silenced ≡ s →
     left_of k false due now (still_as here None) l s ≡ with_lamps k l
 unfolding left_of
 as_it_was k here s due now l e f = rw (← e, ← f)
 
 module _ (here : Current) (a : Panel) (due : Bool) (t u : Talk) (what : Input) where
   module _ (x : declared.Left) (still : x ≡ still_as here None) where
-    pub pushes_state : what ≡ input.PushState → u ≡ push_state (rig_in here) a.lamps a.hushed.now t → RunsPanel what here a a due t x u
+    pub pushes_state : what ≡ input.PushState → u ≡ push_state (rig_in here) a.lamps a.silenced_targets.now t → RunsPanel what here a a due t x u
     unfolding behind act
     pushes_state w f k s e g d =
         rw (w, still) (ap (λ z. got z u) (as_it_was k here s due a.time a.lamps g.bank g.silenced ∙ ap (with_lamps k) (sym g.lamps))
@@ -100,7 +100,7 @@ module _ (here : Current) (a : Panel) (due : Bool) (t u : Talk) (what : Input) w
         rw (w, still) (ap (λ z. got z u) (as_it_was k here s due a.time a.lamps g.bank g.silenced ∙ ap (with_lamps k) (sym g.lamps))
         ∙ ap (got (same k)) (f ∙ ap (λ r. push_transport r t) (sym g.rig)))
 
-    pub flashes : (b : Panel) → what ≡ input.FlashBank → got b.lamps u ≡ flash_bank (rig_in here) a.hushed.now a.moves.now a.time a.lamps t →
+    pub flashes : (b : Panel) → what ≡ input.FlashBank → got b.lamps u ≡ flash_bank (rig_in here) a.silenced_targets.now a.moves.now a.time a.lamps t →
         RunsPanel what here a b due t x u
     unfolding behind act next
     flashes b w f k s e g d =
@@ -121,7 +121,7 @@ unchanged before (Some s) known r l ts t u e =
     let z : ◌≡◌ {A = Bool} true false = ap (λ (g : Got Refreshed). g.value.changed) e in absurd (true≢false z)
 
 -- what is left, by whether the list was due
-ticked : (k : Kept) (here : Current) (s : List Hushed) (due : Bool) (now : Float) (x : Option Strips) (l : Lamps) → k.site.bank ≡ here.bank → k.silenced ≡ s →
+ticked : (k : Kept) (here : Current) (s : List SilencedLevel) (due : Bool) (now : Float) (x : Option Strips) (l : Lamps) → k.site.bank ≡ here.bank → k.silenced ≡ s →
     (due ≡ false → x ≡ None) → left_of k true due now (still_as here x) l s ≡ after_tick due k now (seen_again (here_in here).strips x) l
 unfolding left_of
 ticked k here s true now None l e f w = rw (← e, ← f)
@@ -131,9 +131,9 @@ ticked k here s false now x l e f w = rw (w refl, ← e, ← f)
 module _ (here : Current) (a b : Panel) (due : Bool) (t : Talk) where
   -- x is the bank's list where that is another one, q the rig with it, u the line after it, and w the line after the flash
   pub ticks : (x : Option Strips) (q : Rig) (u w : Talk) →
-      got (seen_again (here_in here).strips x) u ≡ refresh_due due (seen_strips here.strips.now) (rig_in here) a.lamps a.hushed.now t →
+      got (seen_again (here_in here).strips x) u ≡ refresh_due due (seen_strips here.strips.now) (rig_in here) a.lamps a.silenced_targets.now t →
       with_strips (seen_again (here_in here).strips x).strips (rig_in here) ≡ q →
-      got b.lamps w ≡ tick_flash q a.hushed.now a.moves.now a.time a.lamps u → Ticks here a b due t (still_as here x) w
+      got b.lamps w ≡ tick_flash q a.silenced_targets.now a.moves.now a.time a.lamps u → Ticks here a b due t (still_as here x) w
   unfolding tick_behind next
   ticks x q u w f r h k s e g d =
       let v : View = view_of here.profile.now in
@@ -146,13 +146,13 @@ module _ (here : Current) (a b : Panel) (due : Bool) (t : Talk) where
       (λ z. next (refresh_due z (get_or k.site.lives k.site.bank None) (rig_now v k) k.lamps (targets_of k.silenced) t) (λ y. flash_tick z v k a.time y))
       (sym d)
     where
-      targets : targets_of k.silenced ≡ a.hushed.now
+      targets : targets_of k.silenced ≡ a.silenced_targets.now
       targets = ap targets_of g.silenced ∙ e
 
       not-due : due ≡ false → x ≡ None
       not-due q =
-          unchanged (here_in here).strips x (seen_strips here.strips.now) (rig_in here) a.lamps a.hushed.now t u
-          (f ∙ ap (λ z. refresh_due z (seen_strips here.strips.now) (rig_in here) a.lamps a.hushed.now t) q)
+          unchanged (here_in here).strips x (seen_strips here.strips.now) (rig_in here) a.lamps a.silenced_targets.now t u
+          (f ∙ ap (λ z. refresh_due z (seen_strips here.strips.now) (rig_in here) a.lamps a.silenced_targets.now t) q)
 
       listed : (o o₁ : Option (List Strip)) (r r₁ : Rig) (x x₁ : Lamps) (s s₁ : List ℕ) → o₁ ≡ o → r₁ ≡ r → x₁ ≡ x → s₁ ≡ s →
           refresh_due due o r x s t ≡ refresh_due due o₁ r₁ x₁ s₁ t

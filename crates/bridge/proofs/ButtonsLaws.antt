@@ -14,8 +14,8 @@ use Rattle.profile.specs.Profile.{bank_count}
 use Rattle.lookup.specs.Lookup.{select_of}
 use Rattle.lookup.specs.declared.Destination.{Destination}
 use Rattle.drivers.specs.Talk.{Talk, got, next}
-use Rattle.session.specs.Session.{Hushed, targets_of, has_room}
-use Rattle.session.specs.WellLists.{same_hushed}
+use Rattle.session.specs.Session.{SilencedLevel, targets_of, has_room}
+use Rattle.session.specs.WellLists.{same_silenced}
 use Rattle.definition.specs.Rig.{Rig, destination}
 use Rattle.definition.specs.Levels.{kept_by, has_mute}
 use Rattle.definition.specs.Lamps.{push_state}
@@ -67,7 +67,7 @@ moved bank done = record { bank = bank; moved = done; saved = done }
 module _ (here there : Current) (a b : Panel) (t u : Talk) where
   pub selects_bank : (ch : ℕ) → select_of here.profile.now here.bank ≡ true → ltb ch (bank_count here.profile.now) ≡ true →
       there.bank ≡ selected_by here.profile.now here.bank ch →
-      got b.lamps u ≡ flash_bank (rig_in there) a.hushed.now a.moves.now a.time a.lamps (push_state (rig_in there) a.lamps a.hushed.now t) →
+      got b.lamps u ≡ flash_bank (rig_in there) a.silenced_targets.now a.moves.now a.time a.lamps (push_state (rig_in there) a.lamps a.silenced_targets.now t) →
       PressesThere (select_as (select_of here.profile.now here.bank) ch) here there a b t (moved there.bank true) u
   unfolding next select_bank selected_by
   selects_bank ch c d to f rig_at s q i j =
@@ -79,20 +79,20 @@ module _ (here there : Current) (a b : Panel) (t u : Talk) where
   pub walks : (right done : Bool) → there.profile.now ≡ here.profile.now → here.bank < bank_count here.profile.now →
       there.bank ≡ next_bank right (bank_count here.profile.now) here.bank →
       got (selected_as there.bank b.lamps done) u
-      ≡ select_if (eqb there.bank here.bank) (λ n. rig_in there) here.bank there.bank a.hushed.now a.moves.now a.time a.lamps t →
+      ≡ select_if (eqb there.bank here.bank) (λ n. rig_in there) here.bank there.bank a.silenced_targets.now a.moves.now a.time a.lamps t →
       PressesThere (walk right) here there a b t (moved there.bank done) u
   unfolding next
   walks right done same low to f rig_at s q i j =
       let banks : ℕ = bank_count here.profile.now in
       let in-profile : there.bank < banks = subst (λ n. n < banks) (sym to) (next_low right banks here.bank low) in
-      let g = f ∙ sym (step_is right rig_at (rig_in there) banks here.bank there.bank a.hushed.now a.moves.now a.time a.lamps t (sym to) j in-profile) in
+      let g = f ∙ sym (step_is right rig_at (rig_in there) banks here.bank there.bank a.silenced_targets.now a.moves.now a.time a.lamps t (sym to) j in-profile) in
       rw (q, ← g)
 
 -- ── mute ──
 
 -- what number 11 counts leaves a mute its place
-module _ (r : Rig) (fader : ℕ) (s : List Hushed) (once : no_twice eqb (targets_of s) ≡ true) where
-  same_once : no_twice same_hushed s ≡ true
+module _ (r : Rig) (fader : ℕ) (s : List SilencedLevel) (once : no_twice eqb (targets_of s) ≡ true) where
+  same_once : no_twice same_silenced s ≡ true
   same_once = sym (once_keys (λ x. x.target) s) ∙ once
 
   room_to : (f : Option Destination) → length s + length (adding f (targets_of s) []) ≤ 256 → room_at f (targets_of s) ≡ true

@@ -21,7 +21,7 @@ use Rattle.lookup.specs.View.{view_of}
 use Rattle.drivers.specs.Talk.{Talk, Got, got, start}
 use Rattle.drivers.specs.Shown.{shown}
 use Rattle.drivers.specs.declared.line.Io.{Io}
-use Rattle.session.specs.Session.{seen_line, seen_turns, Hushed, targets_of, is_hushed, seen_silenced}
+use Rattle.session.specs.Session.{seen_line, seen_turns, SilencedLevel, targets_of, is_silenced, seen_silenced}
 use Rattle.session.specs.declared.Silenced.{Silenced}
 use Rattle.session.specs.declared.Session.{Session}
 use Rattle.session.specs.declared.Lamps.{Lamps}
@@ -58,15 +58,15 @@ use Rattle.lookup.specs.declared.Destination.{Destination}
 
 adding_long : (f : Option Destination) (ts l : List ℕ) → length (adding f ts l) ≤ suc (length l)
 adding_long None ts l = omega arith
-adding_long (Some d) ts l = at (has_mute d) (is_hushed (kept_by d) ts)
+adding_long (Some d) ts l = at (has_mute d) (is_silenced (kept_by d) ts)
   where
-    hushed_at_lem : (h : Bool) → length (pick h l (change (is_same (kept_by d)) (λ x. x) (kept_by d) l)) ≤ suc (length l)
-    hushed_at_lem true = omega arith
-    hushed_at_lem false = change_long (is_same (kept_by d)) (λ x. x) (kept_by d) l
+    silenced_at_lem : (h : Bool) → length (pick h l (change (is_same (kept_by d)) (λ x. x) (kept_by d) l)) ≤ suc (length l)
+    silenced_at_lem true = omega arith
+    silenced_at_lem false = change_long (is_same (kept_by d)) (λ x. x) (kept_by d) l
 
     at : (b h : Bool) → length (add_target b (kept_by d) ts l) ≤ suc (length l)
     at true h = omega arith
-    at false h = hushed_at_lem (is_hushed (kept_by d) ts)
+    at false h = silenced_at_lem (is_silenced (kept_by d) ts)
 
 solo_long : (of : ℕ → Option Destination) (fader : ℕ) (ts : List ℕ) (n : ℕ) → length (solo_adds of fader ts n) ≤ n
 unfolding solo_adds
@@ -113,7 +113,7 @@ unfolding seen
 rig_now_lem p s = refl
 
 -- as many targets as are silenced
-pub targets_long : (l : List Hushed) → length (targets_of l) ≡ length l
+pub targets_long : (l : List SilencedLevel) → length (targets_of l) ≡ length l
 targets_long l = length-map l (λ e. e.target)
 
 module _ (p : List ℕ) (s : Session) (here : Current) (now : Float) (rig : rig_now (view_of p) (seen p s) ≡ rig_in here) where
@@ -256,7 +256,7 @@ ran_so p s e here ticks x t t₀ same f g =
     (g ∙ ap (λ (q : List ℕ). drain_if ticks (rig_in here) (seen_line s.line) (seen_turns q s.turns) t₀) same)
 
 module _ (p : List ℕ) (s : Session) (e : Timed) (answers : List ℕ) (here : Current) (rig : rig_now (view_of p) (seen p s) ≡ rig_in here) (ticks : Bool)
-    (t₀ u : Talk) (fresh : t₀ ≡ start answers s.opened) (ticks-is : ticks ≡ is_tick e.what) (due : Bool) (left : declared.Left) (l₁ : Lamps) (s₁ : List Hushed)
+    (t₀ u : Talk) (fresh : t₀ ≡ start answers s.opened) (ticks-is : ticks ≡ is_tick e.what) (due : Bool) (left : declared.Left) (l₁ : Lamps) (s₁ : List SilencedLevel)
     (ran : got (left_of (seen p s) (is_tick e.what) due e.time left l₁ s₁) u
     ≡ behind e.what (view_of p) (seen p s) e.time (drain_if ticks (rig_in here) (seen_line s.line) (seen_turns p s.turns) t₀)) where
   -- what was left and the line after it are the definition's

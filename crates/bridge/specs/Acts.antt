@@ -2,7 +2,7 @@
 use Rattle.std.specs.Prelude.{ℕ, ◌≡◌, Bool, true, false, List, get_or, Float, None}
 use Rattle.lookup.specs.View.{View, view_of}
 use Rattle.drivers.specs.Talk.{Talk, Act, got, next}
-use Rattle.session.specs.Session.{Hushed, targets_of, seen_strips}
+use Rattle.session.specs.Session.{SilencedLevel, targets_of, seen_strips}
 use Rattle.session.specs.declared.Lamps.{Lamps}
 use Rattle.session.specs.declared.Moves.{Moves}
 use Rattle.event.specs.declared.Input.{Input}
@@ -20,7 +20,7 @@ use Rattle.after.specs.declared.Left as declared
 
 -- the groups are those of the session that is seen as k: the current bank, the bank that is current after the event, the lamps' state, the silenced
 -- levels, and the last moves
-pub record Given (k : Kept) (here there : Current) (l : Lamps) (s : List Hushed) (m : Moves) : Type 0 where
+pub record Given (k : Kept) (here there : Current) (l : Lamps) (s : List SilencedLevel) (m : Moves) : Type 0 where
   pub bank : k.site.bank ≡ here.bank
   pub rig : rig_now (view_of here.profile.now) k ≡ rig_in here
   pub rig_there : rig_at (view_of here.profile.now) k there.bank ≡ rig_in there
@@ -51,24 +51,24 @@ abbrev pub pressing : ℕ → View → Kept → Float → Act Left
 pressing note v k now = on_button true v k now note
 
 -- it does as f says, for every session with these groups; x, l₁ and u are what is left, the lamps' state and the line after it, s₁ what is silenced then
-abbrev pub Runs : (View → Kept → Float → Act Left) → Current → Current → Lamps → List Hushed → Moves → Float → Talk → declared.Left → Lamps → List Hushed → Talk → Type 0
+abbrev pub Runs : (View → Kept → Float → Act Left) → Current → Current → Lamps → List SilencedLevel → Moves → Float → Talk → declared.Left → Lamps → List SilencedLevel → Talk → Type 0
 Runs f here there l s m now t x l₁ s₁ u =
     (k : Kept) → Given k here there l s m → got (left_of k false false now x l₁ s₁) u ≡ f (view_of here.profile.now) k now t
 
 -- a tick: `due` is whether the live bank is; a is the panel before it, b after it
 abbrev pub Ticks : Current → Panel → Panel → Bool → Talk → declared.Left → Talk → Type 0
 Ticks here a b due t x u =
-    (k : Kept) (s : List Hushed) → targets_of s ≡ a.hushed.now → Given k here here a.lamps s a.moves.now → is_due k.site.due k.site.at a.time ≡ due →
+    (k : Kept) (s : List SilencedLevel) → targets_of s ≡ a.silenced_targets.now → Given k here here a.lamps s a.moves.now → is_due k.site.due k.site.at a.time ≡ due →
     got (left_of k true due a.time x b.lamps s) u ≡ tick_behind (view_of here.profile.now) k a.time t
 
 -- any event where what is silenced stays, whatever the levels are
 abbrev pub RunsPanel : Input → Current → Panel → Panel → Bool → Talk → declared.Left → Talk → Type 0
 RunsPanel what here a b due t x u =
-    (k : Kept) (s : List Hushed) → targets_of s ≡ a.hushed.now → Given k here here a.lamps s a.moves.now → is_due k.site.due k.site.at a.time ≡ due →
+    (k : Kept) (s : List SilencedLevel) → targets_of s ≡ a.silenced_targets.now → Given k here here a.lamps s a.moves.now → is_due k.site.due k.site.at a.time ≡ due →
     got (left_of k (is_tick what) due a.time x b.lamps s) u ≡ behind what (view_of here.profile.now) k a.time t
 
 -- any of them
-abbrev pub RunsAny : Input → Current → Current → Lamps → List Hushed → Moves → Bool → Float → Talk → declared.Left → Lamps → List Hushed → Talk → Type 0
+abbrev pub RunsAny : Input → Current → Current → Lamps → List SilencedLevel → Moves → Bool → Float → Talk → declared.Left → Lamps → List SilencedLevel → Talk → Type 0
 RunsAny what here there l s m due now t x l₁ s₁ u =
     (k : Kept) → Given k here there l s m → is_due k.site.due k.site.at now ≡ due →
     got (left_of k (is_tick what) due now x l₁ s₁) u ≡ behind what (view_of here.profile.now) k now t

@@ -6,7 +6,7 @@ use Rattle.protocol.specs.declared.Event.TheVariants as event
 use Rattle.profile.specs.Profile.{verdict}
 use Rattle.lookup.specs.View.{view_of}
 use Rattle.drivers.specs.Talk.{Talk, Got, start}
-use Rattle.session.specs.Session.{Hushed, Turn, seen_strips}
+use Rattle.session.specs.Session.{SilencedLevel, Turn, seen_strips}
 use Rattle.session.specs.declared.Session.{Session}
 use Rattle.session.specs.declared.Live.{Live}
 use Rattle.session.specs.declared.Move.{Move}
@@ -134,7 +134,7 @@ unfoldable pub act_of : List ℕ → Session → Timed → List ℕ → Got Left
 act_of p s e answers = act e.what (view_of p) (seen p s) e.time (start answers s.opened)
 
 -- an event that ran on scratch buffers: l₁ and s₁ are the lamps' state and what is silenced after it
-pub record Talks (p : List ℕ) (s : Session) (e : Timed) (answers ms cs : List ℕ) (saves : Bool) (r : talked.Talked) (l₁ : Lamps) (s₁ : List Hushed) (ms₁ cs₁ : List ℕ) : Type 0 where
+pub record Talks (p : List ℕ) (s : Session) (e : Timed) (answers ms cs : List ℕ) (saves : Bool) (r : talked.Talked) (l₁ : Lamps) (s₁ : List SilencedLevel) (ms₁ cs₁ : List ℕ) : Type 0 where
   pub outcome : told r.outcome ≡ outcome_of (end_of (act_of p s e answers).talk ((act_of p s e answers).value.saved && saves))
   pub opened : r.opened ≡ (act_of p s e answers).talk.opened
   pub left : left_of (seen p s) (is_tick e.what) (is_due s.livedue s.liveat e.time) e.time r.left l₁ s₁ ≡ (act_of p s e answers).value

@@ -5,7 +5,7 @@ use Rattle.protocol.specs.Protocol.{kind_of, channel_of}
 use Rattle.profile.specs.Profile.{bank_count}
 use Rattle.lookup.specs.Lookup.{select_of}
 use Rattle.drivers.specs.Talk.{Talk, Act, got}
-use Rattle.session.specs.Session.{Hushed, targets_of}
+use Rattle.session.specs.Session.{SilencedLevel, targets_of}
 use Rattle.session.specs.declared.Lamps.{Lamps}
 use Rattle.session.specs.declared.Moves.{Moves}
 use Rattle.definition.specs.Rig.{Rig}
@@ -33,28 +33,28 @@ bank_after p bank note =
 
 -- ── what a press is handed, and what it leaves ──
 
-abbrev pub press_with : Rig → (ℕ → Rig) → ℕ → Moves → Float → Lamps → List Hushed → Press
+abbrev pub press_with : Rig → (ℕ → Rig) → ℕ → Moves → Float → Lamps → List SilencedLevel → Press
 press_with r rig_at banks m now l s =
     record { rig = r; rig_at = rig_at; banks = banks; moves = m; now = now; lamps = l; silenced = s }
 
 -- what the definition sees of what is left, with the lamps' state l and the silenced levels s
-abbrev pub seen_pressed : declared.Pressed → Lamps → List Hushed → Pressed
+abbrev pub seen_pressed : declared.Pressed → Lamps → List SilencedLevel → Pressed
 seen_pressed x l s = pressed x.bank l s x.moved x.saved
 
 -- a press in the current bank that leaves the silenced levels alone, whatever they are: a is the panel before it, b after it
 abbrev pub PressesHere : (Press → Act Pressed) → Current → Panel → Panel → Talk → declared.Pressed → Talk → Type 0
 PressesHere f here a b t x u =
-    (rig_at : ℕ → Rig) (s : List Hushed) → targets_of s ≡ a.hushed.now →
+    (rig_at : ℕ → Rig) (s : List SilencedLevel) → targets_of s ≡ a.silenced_targets.now →
     got (seen_pressed x b.lamps s) u ≡ f (press_with (rig_in here) rig_at (bank_count here.profile.now) a.moves.now a.time a.lamps s) t
 
 -- the same where the press may select the bank `there`
 abbrev pub PressesThere : (Press → Act Pressed) → Current → Current → Panel → Panel → Talk → declared.Pressed → Talk → Type 0
 PressesThere f here there a b t x u =
-    (rig_at : ℕ → Rig) (s : List Hushed) → targets_of s ≡ a.hushed.now → rig_at here.bank ≡ rig_in here → rig_at there.bank ≡ rig_in there →
+    (rig_at : ℕ → Rig) (s : List SilencedLevel) → targets_of s ≡ a.silenced_targets.now → rig_at here.bank ≡ rig_in here → rig_at there.bank ≡ rig_in there →
     got (seen_pressed x b.lamps s) u ≡ f (press_with (rig_in here) rig_at (bank_count here.profile.now) a.moves.now a.time a.lamps s) t
 
 -- any press; l and s are the lamps' state and what is silenced before it, m and k after it
-abbrev pub Presses : (Press → Act Pressed) → Current → Current → Lamps → List Hushed → Moves → Float → Talk → declared.Pressed → Lamps → List Hushed → Talk → Type 0
+abbrev pub Presses : (Press → Act Pressed) → Current → Current → Lamps → List SilencedLevel → Moves → Float → Talk → declared.Pressed → Lamps → List SilencedLevel → Talk → Type 0
 Presses f here there l s moves now t x m k u =
     (rig_at : ℕ → Rig) → rig_at here.bank ≡ rig_in here → rig_at there.bank ≡ rig_in there →
     got (seen_pressed x m k) u ≡ f (press_with (rig_in here) rig_at (bank_count here.profile.now) moves now l s) t

@@ -66,7 +66,7 @@ fn on_tick(io: &mut Io<'_>, here: &Accepted<'_>, panel: &mut Panel<'_>, due: boo
     ensures known_if { KnownIf result.strips }
 {
     let bank = here.here.bank;
-    let strips = live::refresh(io, here, &panel.lamps, panel.hushed, due);
+    let strips = live::refresh(io, here, &panel.lamps, panel.silenced_targets, due);
     match &strips {
         Some(changed) => {
             let there = Current {
@@ -105,7 +105,7 @@ fn on_panel(
         Input::Midi(_) => still(bank),
         Input::Tick => on_tick(io, here, panel, due),
         Input::PushState => {
-            surface::lamps::push_state(io, &here.here, &panel.lamps, panel.hushed);
+            surface::lamps::push_state(io, &here.here, &panel.lamps, panel.silenced_targets);
             still(bank)
         }
         Input::PushTransport => {
@@ -149,7 +149,7 @@ pub fn run(
         None => {
             let mut panel = Panel {
                 lamps: *lamps,
-                hushed: silenced.targets(),
+                silenced_targets: silenced.targets(),
                 moves,
                 time: e.time,
             };

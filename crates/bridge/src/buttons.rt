@@ -211,7 +211,7 @@ pub fn button(
 {
     let fader = channel_of(b) + 1;
     // Seen before any of them: what a mute requires is said of these targets.
-    let hushed = silenced.targets();
+    let silenced_targets = silenced.targets();
     match b.kind() {
         Kind::Mute => {
             mutes::mute(io, &here.here, lamps, silenced, fader);
@@ -224,7 +224,7 @@ pub fn button(
         _ => {
             let mut panel = Panel {
                 lamps: *lamps,
-                hushed,
+                silenced_targets,
                 moves,
                 time,
             };
@@ -237,16 +237,21 @@ pub fn button(
 
 // The number of targets that the press would silence beside those that are: number 11 is decided by it, before any call.
 #[tactic(auto, using(crate::proofs::PressLaws::adds_muted, crate::proofs::PressLaws::adds_soloed))]
-pub fn added_by(here: &Current<'_>, lamps: &Lamps, hushed: &[u16], press: Option<Button>) -> usize
-    ensures { result ≡ length (adds_by here.now lamps.now press hushed.now) }
+pub fn added_by(
+    here: &Current<'_>,
+    lamps: &Lamps,
+    silenced_targets: &[u16],
+    press: Option<Button>,
+) -> usize
+    ensures { result ≡ length (adds_by here.now lamps.now press silenced_targets.now) }
 {
     let Some(b) = press else {
         return 0;
     };
     let fader = channel_of(b) + 1;
     match b.kind() {
-        Kind::Mute => silencing::added_by_mute(here, hushed, fader),
-        Kind::Solo => silencing::added_by_solo(here, lamps, hushed, fader),
+        Kind::Mute => silencing::added_by_mute(here, silenced_targets, fader),
+        Kind::Solo => silencing::added_by_solo(here, lamps, silenced_targets, fader),
         _ => 0,
     }
 }

@@ -323,9 +323,14 @@ fn overfull(session: &Session, profile: &[u8], e: Timed) -> bool
     ensures few { length (seen_silenced session.now.silenced) ≤ 256 }
 {
     let here = current(session, profile, session.bank);
-    let hushed = session.silenced.targets();
-    let added = buttons::added_by(&here, &session.lamps, hushed, which::press_of(e.what));
-    256 < hushed.len() + added
+    let silenced_targets = session.silenced.targets();
+    let added = buttons::added_by(
+        &here,
+        &session.lamps,
+        silenced_targets,
+        which::press_of(e.what),
+    );
+    256 < silenced_targets.len() + added
 }
 
 // A press, a tick, a push or a flash.

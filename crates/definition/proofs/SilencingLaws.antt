@@ -16,9 +16,9 @@ use Rattle.base.proofs.Pigeon.{left_of_lem, right_of, all-change, no_left, no_ri
 use Rattle.float.specs.Leaf.{f0}
 use Rattle.lookup.specs.declared.Destination.{Destination}
 use Rattle.drivers.specs.Talk.{Talk, Act, next}
-use Rattle.session.specs.Session.{Hushed, hushed_at, targets_of, is_hushed, same_target, has_room, is_target, other_target, hush, unhush, was_muted}
-use Rattle.session.specs.WellLists.{same_hushed}
-use Rattle.session.proofs.SessionLaws.{hush_once, unhush_once}
+use Rattle.session.specs.Session.{SilencedLevel, silenced_at, targets_of, is_silenced, same_target, has_room, is_target, other_target, insert_level, remove_level, was_muted}
+use Rattle.session.specs.WellLists.{same_silenced}
+use Rattle.session.proofs.SessionLaws.{insert_level_once, remove_level_once}
 use Rattle.session.specs.declared.Lamps.{Lamps}
 use Rattle.definition.specs.Rig.{Rig, destination}
 use Rattle.definition.specs.Levels.{read, kept_by, has_mute, or_zero}
@@ -157,12 +157,12 @@ module _ {A : Type 0} (key : A → ℕ) where
 
 -- ── silenced targets, none twice, each of them in m ──
 
-pub record Within (m : List ℕ) (s : List Hushed) : Type 0 where
-  pub once : no_twice same_hushed s ≡ true
+pub record Within (m : List ℕ) (s : List SilencedLevel) : Type 0 where
+  pub once : no_twice same_silenced s ≡ true
   pub all : all_of (λ e. among m e.target) s ≡ true
 
 -- m may grow
-pub grown : {m n : List ℕ} {s : List Hushed} → ((x : ℕ) → among m x ≡ true → among n x ≡ true) → Within m s → Within n s
+pub grown : {m n : List ℕ} {s : List SilencedLevel} → ((x : ℕ) → among m x ≡ true → among n x ≡ true) → Within m s → Within n s
 grown {m} {n} {s} h w =
     record {
       once = w.once;
@@ -170,7 +170,7 @@ grown {m} {n} {s} h w =
     }
 
 -- those held, before anything is added
-pub held : (s : List Hushed) (adds : List ℕ) → no_twice same_hushed s ≡ true → Within (targets_of s ++ adds) s
+pub held : (s : List SilencedLevel) (adds : List ℕ) → no_twice same_silenced s ≡ true → Within (targets_of s ++ adds) s
 held s adds o =
     record { once = o; all = keys_among (λ e. e.target) s (targets_of s ++ adds) (λ x. any-first (λ y. eqb y x) (targets_of s) adds) }
 
@@ -181,85 +181,85 @@ Covered m None = Unit {0}
 
 module _ (m : List ℕ) where
   -- what an act leaves is within m
-  abbrev pub Leaves : Act (List Hushed) → Type 0
+  abbrev pub Leaves : Act (List SilencedLevel) → Type 0
   Leaves f = (t : Talk) → Within m (f t).value
 
-  pub hush_so : (target : ℕ) (v : Float) (s : List Hushed) → among m target ≡ true → Within m s → Within m (hush target v s)
-  unfolding hush
-  hush_so target v s h w =
+  pub insert_level_so : (target : ℕ) (v : Float) (s : List SilencedLevel) → among m target ≡ true → Within m s → Within m (insert_level target v s)
+  unfolding insert_level
+  insert_level_so target v s h w =
       record {
-        once = hush_once s target v w.once;
-        all = all-change (λ e. among m e.target) (is_target target) (λ e. hushed_at target v) (hushed_at target v) h (λ e. h) s w.all;
+        once = insert_level_once s target v w.once;
+        all = all-change (λ e. among m e.target) (is_target target) (λ e. silenced_at target v) (silenced_at target v) h (λ e. h) s w.all;
       }
 
-  pub unhush_so : (target : ℕ) (s : List Hushed) → Within m s → Within m (unhush target s)
-  unfolding unhush
-  unhush_so target s w =
+  pub remove_level_so : (target : ℕ) (s : List SilencedLevel) → Within m s → Within m (remove_level target s)
+  unfolding remove_level
+  remove_level_so target s w =
       record {
-        once = unhush_once s target w.once;
+        once = remove_level_once s target w.once;
         all = all-kept (λ e. among m e.target) (other_target target) s w.all;
       }
 
-  back_so : (d : Destination) (s : List Hushed) → Within m s → Leaves (hand_back d s)
+  back_so : (d : Destination) (s : List SilencedLevel) → Within m s → Leaves (hand_back d s)
   unfolding hand_back
-  back_so d s w t = unhush_so (kept_by d) s w
+  back_so d s w t = remove_level_so (kept_by d) s w
 
-  keep_so : (d : Destination) (s : List Hushed) → among m (kept_by d) ≡ true → Within m s → Leaves (keep_level d s)
+  keep_so : (d : Destination) (s : List SilencedLevel) → among m (kept_by d) ≡ true → Within m s → Leaves (keep_level d s)
   unfolding keep_level next
-  keep_so d s h w t = hush_so (kept_by d) (or_zero (read d t).value) s h w
+  keep_so d s h w t = insert_level_so (kept_by d) (or_zero (read d t).value) s h w
 
-  zeroed_so : (d : Destination) (s : List Hushed) → among m (kept_by d) ≡ true → Within m s → Leaves (zeroed d s)
+  zeroed_so : (d : Destination) (s : List SilencedLevel) → among m (kept_by d) ≡ true → Within m s → Leaves (zeroed d s)
   unfolding zeroed next
   zeroed_so d s h w t = keep_so d s h w t
 
   -- ── mute ──
-  mute_level_so : (b : Bool) (d : Destination) (s : List Hushed) → among m (kept_by d) ≡ true → Within m s → Leaves (mute_level b d s)
+  mute_level_so : (b : Bool) (d : Destination) (s : List SilencedLevel) → among m (kept_by d) ≡ true → Within m s → Leaves (mute_level b d s)
   mute_level_so true d s h w = back_so d s w
   mute_level_so false d s h w = zeroed_so d s h w
 
-  mute_if_so : (b : Bool) (d : Destination) (s : List Hushed) → (b ≡ false → among m (kept_by d) ≡ true) → Within m s → Leaves (mute_if b d s)
+  mute_if_so : (b : Bool) (d : Destination) (s : List SilencedLevel) → (b ≡ false → among m (kept_by d) ≡ true) → Within m s → Leaves (mute_if b d s)
   mute_if_so true d s h w t = w
-  mute_if_so false d s h w t = mute_level_so (is_hushed (kept_by d) (targets_of s)) d s (h refl) w t
+  mute_if_so false d s h w t = mute_level_so (is_silenced (kept_by d) (targets_of s)) d s (h refl) w t
 
-  mute_to_so : (f : Option Destination) (r : Rig) (l : Lamps) (s : List Hushed) → Covered m f → Within m s → Leaves (mute_to f r l s)
+  mute_to_so : (f : Option Destination) (r : Rig) (l : Lamps) (s : List SilencedLevel) → Covered m f → Within m s → Leaves (mute_to f r l s)
   unfolding next
   mute_to_so (Some d) r l s h w t = mute_if_so (has_mute d) d s h w t
   mute_to_so None r l s h w t = w
 
   -- ── solo off ──
-  back_if_so : (b : Bool) (d : Destination) (s : List Hushed) → Within m s → Leaves (back_if b d s)
+  back_if_so : (b : Bool) (d : Destination) (s : List SilencedLevel) → Within m s → Leaves (back_if b d s)
   back_if_so true d s w t = back_so d s w t
   back_if_so false d s w t = w
 
-  off_if_so : (b : Bool) (d : Destination) (was : Bool) (s : List Hushed) → Within m s → Leaves (off_if b d was s)
+  off_if_so : (b : Bool) (d : Destination) (was : Bool) (s : List SilencedLevel) → Within m s → Leaves (off_if b d was s)
   off_if_so true d was s w t = w
-  off_if_so false d was s w t = back_if_so (is_hushed (kept_by d) (targets_of s)) d s w t
+  off_if_so false d was s w t = back_if_so (is_silenced (kept_by d) (targets_of s)) d s w t
 
-  off_to_so : (f : Option Destination) (was : Bool) (s : List Hushed) → Within m s → Leaves (off_to f was s)
+  off_to_so : (f : Option Destination) (was : Bool) (s : List SilencedLevel) → Within m s → Leaves (off_to f was s)
   off_to_so (Some d) was s w t = off_if_so (has_mute d) d was s w t
   off_to_so None was s w t = w
 
-  solo_off_so : (of : ℕ → Option Destination) (l : Lamps) (n : ℕ) (s : List Hushed) → Within m s → Leaves (solo_off of l n s)
+  solo_off_so : (of : ℕ → Option Destination) (l : Lamps) (n : ℕ) (s : List SilencedLevel) → Within m s → Leaves (solo_off of l n s)
   unfolding solo_off next
   solo_off_so of l zero s w t = w
   solo_off_so of l (suc n) s w t = let u = solo_off of l n s t in off_to_so (of (n + 1)) (was_muted (n + 1) l) u.value (solo_off_so of l n s w t) u.talk
 
   -- ── solo on: a peer is silenced only where it is covered ──
-  silence_so : (b : Bool) (d : Destination) (s : List Hushed) → among m (kept_by d) ≡ true → Within m s → Leaves (silence_if b d s)
+  silence_so : (b : Bool) (d : Destination) (s : List SilencedLevel) → among m (kept_by d) ≡ true → Within m s → Leaves (silence_if b d s)
   unfolding next
   silence_so true d s h w t = w
   silence_so false d s h w t = keep_so d s h w t
 
-  on_so : (b : Bool) (d : Destination) (s : List Hushed) → (b ≡ false → among m (kept_by d) ≡ true) → Within m s → Leaves (on_if b d true s)
+  on_so : (b : Bool) (d : Destination) (s : List SilencedLevel) → (b ≡ false → among m (kept_by d) ≡ true) → Within m s → Leaves (on_if b d true s)
   on_so true d s h w t = w
-  on_so false d s h w t = silence_so (is_hushed (kept_by d) (targets_of s)) d s (h refl) w t
+  on_so false d s h w t = silence_so (is_silenced (kept_by d) (targets_of s)) d s (h refl) w t
 
-  alone_so : (b : Bool) (d : Destination) (s : List Hushed) → Within m s → Leaves (on_if b d false s)
+  alone_so : (b : Bool) (d : Destination) (s : List SilencedLevel) → Within m s → Leaves (on_if b d false s)
   alone_so true d s w t = w
-  alone_so false d s w t = back_if_so (is_hushed (kept_by d) (targets_of s)) d s w t
+  alone_so false d s w t = back_if_so (is_silenced (kept_by d) (targets_of s)) d s w t
 
   -- `self`: it is the fader itself
-  pub on_to_so : (self : Bool) (f : Option Destination) (s : List Hushed) → Covered m (pick self None f) → Within m s → Leaves (on_to f (not self) s)
+  pub on_to_so : (self : Bool) (f : Option Destination) (s : List SilencedLevel) → Covered m (pick self None f) → Within m s → Leaves (on_to f (not self) s)
   on_to_so true (Some d) s h w t = alone_so (has_mute d) d s w t
   on_to_so false (Some d) s h w t = on_so (has_mute d) d s h w t
   on_to_so true None s h w t = w
@@ -281,23 +281,23 @@ module _ (ts l : List ℕ) where
 
       go : (b : Bool) → among (add_target b (kept_by d) ts l) x ≡ true
       go true = e
-      go false = at (is_hushed (kept_by d) ts)
+      go false = at (is_silenced (kept_by d) ts)
 
   pub adding_covers : (f : Option Destination) → Covered (ts ++ adding f ts l) f
-  unfolding is_hushed
+  unfolding is_silenced
   adding_covers None = tt
   adding_covers (Some d) = go (has_mute d)
     where
-      at : (h : Bool) → is_hushed (kept_by d) ts ≡ h → among (ts ++ pick h l (made (kept_by d))) (kept_by d) ≡ true
+      at : (h : Bool) → is_silenced (kept_by d) ts ≡ h → among (ts ++ pick h l (made (kept_by d))) (kept_by d) ≡ true
       at true e = any-first (λ y. eqb y (kept_by d)) ts l e
       at false e =
           any_second (λ y. eqb y (kept_by d)) ts (made (kept_by d)) (any-made (is_same (kept_by d)) (kept_by d) l (eq-eqb (kept_by d) (kept_by d) refl))
 
       go : (b : Bool) → b ≡ false → among (ts ++ add_target b (kept_by d) ts l) (kept_by d) ≡ true
       go true e = absurd (true≢false e)
-      go false e = at (is_hushed (kept_by d) ts) refl
+      go false e = at (is_silenced (kept_by d) ts) refl
 
-module _ (s : List Hushed) (o : no_twice same_hushed s ≡ true) where
+module _ (s : List SilencedLevel) (o : no_twice same_silenced s ≡ true) where
   abbrev ts : List ℕ
   ts = targets_of s
 
@@ -333,20 +333,20 @@ module _ (s : List Hushed) (o : no_twice same_hushed s ≡ true) where
 -- ── room ──
 
 -- a target that is not among those silenced
-not-among : (target : ℕ) (l : List Hushed) → any_of (same_target target) (targets_of l) ≡ false → any_of (same_hushed (hushed_at target f0)) l ≡ false
+not-among : (target : ℕ) (l : List SilencedLevel) → any_of (same_target target) (targets_of l) ≡ false → any_of (same_silenced (silenced_at target f0)) l ≡ false
 unfolding any_of
 not-among target [] e = refl
 not-among target (x ∷ l) e =
     let d : x.target ≡ target → ⊥ = eqb-false _ _ (first_no (eqb x.target target) (any_of (same_target target) (targets_of l)) e) in
     rw (ne_eqb target x.target (λ q. d (sym q)), not-among target l (rest_no (eqb x.target target) (any_of (same_target target) (targets_of l)) e))
 
-one_more : (m : List ℕ) (s : List Hushed) (target : ℕ) → Within m s → among m target ≡ true → any_of (same_target target) (targets_of s) ≡ false →
-    Within m (hushed_at target f0 ∷ s)
+one_more : (m : List ℕ) (s : List SilencedLevel) (target : ℕ) → Within m s → among m target ≡ true → any_of (same_target target) (targets_of s) ≡ false →
+    Within m (silenced_at target f0 ∷ s)
 unfolding no_twice all_of
 one_more m s target w h e = record { once = rw (not-among target s e, w.once); all = rw (h, w.all) }
 
 -- those within m, none twice, leave room for one more of m
-pub room_within : (m : List ℕ) (s : List Hushed) (target : ℕ) → Within m s → among m target ≡ true → length m ≤ 256 → has_room target (targets_of s) ≡ true
+pub room_within : (m : List ℕ) (s : List SilencedLevel) (target : ℕ) → Within m s → among m target ≡ true → length m ≤ 256 → has_room target (targets_of s) ≡ true
 unfolding has_room
 room_within m s target w h few = go (any_of (same_target target) (targets_of s)) refl
   where
@@ -354,6 +354,6 @@ room_within m s target w h few = go (any_of (same_target target) (targets_of s))
     go true e = refl
     go false e =
         let x = one_more m s target w h e in
-        let short : suc (length s) ≤ length m = fits (λ e. e.target) (hushed_at target f0 ∷ s) m x.once x.all in
+        let short : suc (length s) ≤ length m = fits (λ e. e.target) (silenced_at target f0 ∷ s) m x.once x.all in
         let same : length (targets_of s) ≡ length s = length-map s (λ e. e.target) in
         lt-ltb (length (targets_of s)) 256 (omega arith)

@@ -5,7 +5,7 @@ use Rattle.base.specs.Choice.{pick}
 use Rattle.protocol.specs.Protocol.{kind_of, channel_of}
 use Rattle.lookup.specs.Lookup.{or_absent, transport_of, before}
 use Rattle.drivers.specs.Talk.{Talk, Got, Act, got, next, open_for, command_of}
-use Rattle.session.specs.Session.{Hushed, targets_of}
+use Rattle.session.specs.Session.{SilencedLevel, targets_of}
 use Rattle.session.specs.declared.Lamps.{Lamps}
 use Rattle.session.specs.declared.Moves.{Moves}
 use Rattle.definition.specs.Rig.{Rig, Here, bank_driver, first_target}
@@ -19,11 +19,11 @@ use Rattle.protocol.specs.ButtonKinds as kinds
 pub record Pressed : Type 0 where
   pub bank : ℕ
   pub lamps : Lamps
-  pub silenced : List Hushed
+  pub silenced : List SilencedLevel
   pub moved : Bool
   pub saved : Bool
 
-abbrev pub pressed : ℕ → Lamps → List Hushed → Bool → Bool → Pressed
+abbrev pub pressed : ℕ → Lamps → List SilencedLevel → Bool → Bool → Pressed
 pressed b l s a c = record { bank = b; lamps = l; silenced = s; moved = a; saved = c }
 
 -- ── commands ──
@@ -77,13 +77,13 @@ rec_loads r = rec_if (eqb r.here.part.rec 0) r
 
 -- ── all of them ──
 
-abbrev pub of_bank : List Hushed → Selected → Pressed
+abbrev pub of_bank : List SilencedLevel → Selected → Pressed
 of_bank s x = pressed x.bank x.lamps s x.selected x.selected
 
-abbrev pub of_scene : ℕ → List Hushed → Paged → Pressed
+abbrev pub of_scene : ℕ → List SilencedLevel → Paged → Pressed
 of_scene b s x = pressed b x.lamps s x.loaded x.saved
 
-abbrev pub ran : ℕ → Lamps → List Hushed → Talk → Got Pressed
+abbrev pub ran : ℕ → Lamps → List SilencedLevel → Talk → Got Pressed
 ran b l s t = got (pressed b l s false false) t
 
 -- what every press is handed: the rig, the rig of any bank, their number, last moves, the time, the lamps' state and the silenced levels
@@ -94,7 +94,7 @@ pub record Press : Type 0 where
   pub moves : Moves
   pub now : Float
   pub lamps : Lamps
-  pub silenced : List Hushed
+  pub silenced : List SilencedLevel
 
 abbrev pub bank_of : Press → ℕ
 bank_of p = p.rig.here.bank

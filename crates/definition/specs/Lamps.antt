@@ -8,7 +8,7 @@ use Rattle.lookup.specs.declared.Destination.{Destination}
 use Rattle.lookup.specs.declared.Command.{Command}
 use Rattle.lookup.specs.declared.Entry.{Entry}
 use Rattle.drivers.specs.Talk.{Talk, Got, Act, got, next, ◌>>=◌, send, playing_of}
-use Rattle.session.specs.Session.{is_hushed}
+use Rattle.session.specs.Session.{is_silenced}
 use Rattle.session.specs.declared.Lamps.{Lamps}
 use Rattle.definition.specs.Rig.{Rig, destination}
 use Rattle.definition.specs.Levels.{read, read_mute, kept_by, has_mute}
@@ -38,7 +38,7 @@ or_false None = false
 or_false (Some b) = b
 
 abbrev pub muted_if : Bool → Destination → List ℕ → Act Bool
-muted_if false d s = got (is_hushed (kept_by d) s)
+muted_if false d s = got (is_silenced (kept_by d) s)
 muted_if true d s = read_mute d >>= λ m. got (or_false m)
 
 abbrev pub muted_to : Option Destination → List ℕ → Act Bool

@@ -8,7 +8,7 @@ use Rattle.drivers.specs.Talk.{Got, Act, got, next, start}
 use Rattle.drivers.specs.declared.line.Stop.{Stop}
 use Rattle.drivers.specs.declared.line.Stop.TheVariants.{Going, Waits, Declined, Overrun}
 use Rattle.drivers.specs.declared.Call.{Call}
-use Rattle.session.specs.Session.{Hushed, fresh_session, targets_of, seen_line, seen_turns, seen_silenced, seen_strips, no_marks, unmark_bank}
+use Rattle.session.specs.Session.{SilencedLevel, fresh_session, targets_of, seen_line, seen_turns, seen_silenced, seen_strips, no_marks, unmark_bank}
 use Rattle.session.specs.declared.Session.{Session}
 use Rattle.session.specs.declared.Strip.{Strip}
 use Rattle.session.specs.declared.Lamps.{Lamps}
@@ -35,13 +35,13 @@ pub record Kept : Type 0 where
   pub site : Site
   pub desk : Desk
   pub lamps : Lamps
-  pub silenced : List Hushed
+  pub silenced : List SilencedLevel
   pub opened : List Bool
 
 abbrev pub site : ℕ → Bool → Float → Lives → Site
 site b d a l = record { bank = b; due = d; at = a; lives = l }
 
-abbrev pub kept : Site → Desk → Lamps → List Hushed → List Bool → Kept
+abbrev pub kept : Site → Desk → Lamps → List SilencedLevel → List Bool → Kept
 kept w d l s o = record { site = w; desk = d; lamps = l; silenced = s; opened = o }
 
 -- what is seen of the session's struct over its profile p: lists without capacity
@@ -59,10 +59,10 @@ pub record Left : Type 0 where
   pub site : Site
   pub desk : Desk
   pub lamps : Lamps
-  pub silenced : List Hushed
+  pub silenced : List SilencedLevel
   pub saved : Bool
 
-abbrev pub left : Site → Desk → Lamps → List Hushed → Bool → Left
+abbrev pub left : Site → Desk → Lamps → List SilencedLevel → Bool → Left
 left w d l s b = record { site = w; desk = d; lamps = l; silenced = s; saved = b }
 
 abbrev pub same : Kept → Left

@@ -44,11 +44,11 @@ fn ask(
     driver: u8,
     which: u16,
     lamps: &Lamps,
-    hushed: &[u16],
+    silenced_targets: &[u16],
 ) -> Option<Strips>
     requires driver_value { driver ≡ (here_in here.now).part.device }
     requires which_value { which ≡ (here_in here.now).part.live }
-    ensures value { got (seen_again (here_in here.now).strips result) (shown io.new) ≡ ask_if false (seen_strips here.now.strips.now) (rig_in here.now) lamps.now hushed.now (shown io.old) }
+    ensures value { got (seen_again (here_in here.now).strips result) (shown io.new) ≡ ask_if false (seen_strips here.now.strips.now) (rig_in here.now) lamps.now silenced_targets.now (shown io.old) }
     ensures known { IfSome result (λ s. (s.known ≡ true) × (s.count ≤ 8)) }
 {
     let strips = handed(driver, io.live_faders(driver, which));
@@ -60,7 +60,7 @@ fn ask(
         bank: here.bank,
         strips: &strips,
     };
-    push_state(io, &there, lamps, hushed);
+    push_state(io, &there, lamps, silenced_targets);
     Some(strips)
 }
 
@@ -69,15 +69,15 @@ fn refresh_live(
     io: &mut Io<'_>,
     here: &Accepted<'_>,
     lamps: &Lamps,
-    hushed: &[u16],
+    silenced_targets: &[u16],
 ) -> Option<Strips>
-    ensures value { got (seen_again (here_in here.now.here).strips result) (shown io.new) ≡ refresh_live (seen_strips here.now.here.strips.now) (rig_in here.now.here) lamps.now hushed.now (shown io.old) }
+    ensures value { got (seen_again (here_in here.now.here).strips result) (shown io.new) ≡ refresh_live (seen_strips here.now.here.strips.now) (rig_in here.now.here) lamps.now silenced_targets.now (shown io.old) }
     ensures known { IfSome result (λ s. (s.known ≡ true) × (s.count ≤ 8)) }
 {
     let Current { profile, bank, .. } = here.here;
     let driver = here.own_driver()?;
     let which = lookup::live_of(profile, bank)?;
-    ask(io, &here.here, driver, which, lamps, hushed)
+    ask(io, &here.here, driver, which, lamps, silenced_targets)
 }
 
 // Right after a change, then once a second.
@@ -92,14 +92,14 @@ pub fn refresh(
     io: &mut Io<'_>,
     here: &Accepted<'_>,
     lamps: &Lamps,
-    hushed: &[u16],
+    silenced_targets: &[u16],
     due: bool,
 ) -> Option<Strips>
-    ensures value { got (seen_again (here_in here.now.here).strips result) (shown io.new) ≡ refresh_due due (seen_strips here.now.here.strips.now) (rig_in here.now.here) lamps.now hushed.now (shown io.old) }
+    ensures value { got (seen_again (here_in here.now.here).strips result) (shown io.new) ≡ refresh_due due (seen_strips here.now.here.strips.now) (rig_in here.now.here) lamps.now silenced_targets.now (shown io.old) }
     ensures known { IfSome result (λ s. (s.known ≡ true) × (s.count ≤ 8)) }
 {
     if due {
-        refresh_live(io, here, lamps, hushed)
+        refresh_live(io, here, lamps, silenced_targets)
     } else {
         None
     }

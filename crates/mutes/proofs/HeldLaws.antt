@@ -2,14 +2,14 @@
 use Rattle.std.specs.Prelude.{◌≡◌, refl, Bool, true, false, List, [], ◌∷◌, ℕ, eqb, Float, None, Option, Some}
 use Rattle.base.specs.Choice.{pick}
 use Rattle.base.specs.Keyed.{find, any_of}
-use Rattle.session.specs.Session.{Hushed, targets_of, same_target, is_target, is_hushed, level_for, hushed_level}
+use Rattle.session.specs.Session.{SilencedLevel, targets_of, same_target, is_target, is_silenced, level_for, level_before}
 
 abbrev held : Option Float → Bool
 held (Some x) = true
 held None = false
 
-is_held : (target : ℕ) (s : List Hushed) → is_hushed target (targets_of s) ≡ held (hushed_level target s)
-unfolding is_hushed hushed_level find any_of
+is_held : (target : ℕ) (s : List SilencedLevel) → is_silenced target (targets_of s) ≡ held (level_before target s)
+unfolding is_silenced level_before find any_of
 is_held target [] = refl
 is_held target (e ∷ s) = go (eqb e.target target) (is_held target s)
   where
@@ -19,8 +19,8 @@ is_held target (e ∷ s) = go (eqb e.target target) (is_held target s)
     go false h = h
 
 -- a target is silenced exactly if its level is kept
-pub held_some : (target : ℕ) (s : List Hushed) (x : Float) → Some x ≡ hushed_level target s → is_hushed target (targets_of s) ≡ true
+pub held_some : (target : ℕ) (s : List SilencedLevel) (x : Float) → Some x ≡ level_before target s → is_silenced target (targets_of s) ≡ true
 held_some target s x e = rw (is_held target s, ← e)
 
-pub held_none : (target : ℕ) (s : List Hushed) → None ≡ hushed_level target s → is_hushed target (targets_of s) ≡ false
+pub held_none : (target : ℕ) (s : List SilencedLevel) → None ≡ level_before target s → is_silenced target (targets_of s) ≡ false
 held_none target s e = rw (is_held target s, ← e)

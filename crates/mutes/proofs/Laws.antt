@@ -3,7 +3,7 @@ use Rattle.std.specs.Prelude.{◌≡◌, Bool, true, false, List, ℕ, Float, No
 use Rattle.std.proofs.Common.{sym, subst, ◌∙◌}
 use Rattle.base.specs.Choice.{pick}
 use Rattle.lookup.specs.declared.Destination.{Destination}
-use Rattle.session.specs.Session.{Hushed, targets_of, is_hushed, hushed_level, has_room}
+use Rattle.session.specs.Session.{SilencedLevel, targets_of, is_silenced, level_before, has_room}
 use Rattle.definition.specs.Levels.{kept_by, has_mute}
 use Rattle.mutes.specs.Held.{room_for, room_at}
 use Rattle.mutes.proofs.HeldLaws.{held_some, held_none}
@@ -11,11 +11,11 @@ use Rattle.mutes.proofs.HeldLaws.{held_some, held_none}
 -- ── the silenced ──
 
 -- a target is silenced exactly if its level is kept
-pub is_hushed_lem : (target : ℕ) (s : List Hushed) (l : Option Float) (x : Float) → l ≡ hushed_level target s → l ≡ Some x → is_hushed target (targets_of s) ≡ true
-is_hushed_lem target s l x e h = held_some target s x (sym h ∙ e)
+pub is_silenced_lem : (target : ℕ) (s : List SilencedLevel) (l : Option Float) (x : Float) → l ≡ level_before target s → l ≡ Some x → is_silenced target (targets_of s) ≡ true
+is_silenced_lem target s l x e h = held_some target s x (sym h ∙ e)
 
-pub not_hushed : (target : ℕ) (s : List Hushed) (l : Option Float) → l ≡ hushed_level target s → l ≡ None → is_hushed target (targets_of s) ≡ false
-not_hushed target s l e h = held_none target s (sym h ∙ e)
+pub not_silenced : (target : ℕ) (s : List SilencedLevel) (l : Option Float) → l ≡ level_before target s → l ≡ None → is_silenced target (targets_of s) ≡ false
+not_silenced target s l e h = held_none target s (sym h ∙ e)
 
 -- ── room ──
 

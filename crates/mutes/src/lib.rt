@@ -4,7 +4,7 @@
 ghost use Rattle.std.specs.Prelude.{◌≡◌, true, ◌≤◌, take};
 ghost use Rattle.drivers.specs.Talk.{got};
 ghost use Rattle.drivers.specs.Shown.{shown};
-ghost use Rattle.session.specs.Session.{seen_silenced, hushed_level, has_room};
+ghost use Rattle.session.specs.Session.{seen_silenced, level_before, has_room};
 ghost use Rattle.definition.specs.Rig.{destination};
 ghost use Rattle.definition.specs.Levels.{or_zero, kept_by, has_mute};
 ghost use Rattle.definition.specs.Muting.{hand_back, keep_level, zeroed, mute_if, mute as mute_of, set_mute};
@@ -22,11 +22,11 @@ use session::{Lamps, Silenced};
 #[tactic(auto, unfolding(definition::specs::Muting::hand_back))]
 pub fn hand_back(io: &mut Io<'_>, dest: Destination, silenced: &mut Silenced, before: f64)
     requires count_bound { silenced.old.count ≤ 256 }
-    requires before_value { before ≡ or_zero (hushed_level (kept_by dest) (seen_silenced silenced.old)) }
+    requires before_value { before ≡ or_zero (level_before (kept_by dest) (seen_silenced silenced.old)) }
     ensures line { got (seen_silenced silenced.new) (shown io.new) ≡ hand_back dest (seen_silenced silenced.old) (shown io.old) }
     ensures upper_bound { silenced.new.count ≤ 256 }
 {
-    silenced.unhush(levels::kept_by(dest));
+    silenced.remove_level(levels::kept_by(dest));
     levels::write(io, dest, before);
 }
 
@@ -39,7 +39,7 @@ pub fn keep_level(io: &mut Io<'_>, dest: Destination, silenced: &mut Silenced)
     ensures upper_bound { silenced.new.count ≤ 256 }
 {
     let level = levels::read(io, dest);
-    silenced.hush(levels::kept_by(dest), levels::or_zero(level));
+    silenced.insert_level(levels::kept_by(dest), levels::or_zero(level));
 }
 
 // `mute` writes raw 0, not the low end of the range.

@@ -48,7 +48,7 @@ fn page_to(
     saved: bool,
 ) -> Paged
     requires { here.now.here.bank < 16 }
-    ensures value { got (paged panel.new.lamps result.loaded result.saved) (shown io.new) ≡ page_if (is_at (scene_at here.now.here.bank panel.old.lamps) i) (rig_in here.now.here) panel.old.hushed.now panel.old.moves.now panel.old.time i (started panel.old.lamps saved) (shown io.old) }
+    ensures value { got (paged panel.new.lamps result.loaded result.saved) (shown io.new) ≡ page_if (is_at (scene_at here.now.here.bank panel.old.lamps) i) (rig_in here.now.here) panel.old.silenced_targets.now panel.old.moves.now panel.old.time i (started panel.old.lamps saved) (shown io.old) }
     ensures rest { LampsAlone panel.old panel.new }
 {
     let loaded = panel.lamps.scene_at(here.here.bank) != Some(i)
@@ -66,7 +66,7 @@ fn page_to(
 #[tactic(auto, unfolding(definition::specs::Scenes::step_scene, drivers::specs::Talk::next))]
 pub fn step_scene(io: &mut Io<'_>, here: &Accepted<'_>, panel: &mut Panel<'_>, right: bool) -> Paged
     requires { here.now.here.bank < 16 }
-    ensures value { got (paged panel.new.lamps result.loaded result.saved) (shown io.new) ≡ step_scene right (rig_in here.now.here) panel.old.hushed.now panel.old.moves.now panel.old.time panel.old.lamps (shown io.old) }
+    ensures value { got (paged panel.new.lamps result.loaded result.saved) (shown io.new) ≡ step_scene right (rig_in here.now.here) panel.old.silenced_targets.now panel.old.moves.now panel.old.time panel.old.lamps (shown io.old) }
     ensures rest { LampsAlone panel.old panel.new }
 {
     let offer = scene_names(io, here);
@@ -87,7 +87,7 @@ pub fn step_scene(io: &mut Io<'_>, here: &Accepted<'_>, panel: &mut Panel<'_>, r
 pub fn scene(io: &mut Io<'_>, here: &Accepted<'_>, panel: &mut Panel<'_>, fader: u8) -> bool
     requires bank_bound { here.now.here.bank < 16 }
     requires le_fader { 1 ≤ fader }
-    ensures value { got (paged panel.new.lamps result result) (shown io.new) ≡ scene (rig_in here.now.here) panel.old.hushed.now panel.old.moves.now panel.old.time fader panel.old.lamps (shown io.old) }
+    ensures value { got (paged panel.new.lamps result result) (shown io.new) ≡ scene (rig_in here.now.here) panel.old.silenced_targets.now panel.old.moves.now panel.old.time fader panel.old.lamps (shown io.old) }
     ensures rest { LampsAlone panel.old panel.new }
 {
     let i = usize::from(fader) - 1;

@@ -41,7 +41,7 @@ fn load_on(io: &mut Io<'_>, driver: u8, name: u16, i: usize) -> bool
 #[tactic(auto, unfolding(definition::specs::Scenes::load_scene_at, drivers::specs::Talk::next), using(lookup::proofs::NamedLaws::is_absent, lookup::proofs::NamedLaws::is_there, lookup::proofs::NamedLaws::or_absent_is, lookup::proofs::NamedLaws::its_name))]
 pub fn load_scene_at(io: &mut Io<'_>, here: &Accepted<'_>, panel: &mut Panel<'_>, i: usize) -> bool
     requires { here.now.here.bank < 16 }
-    ensures value { got (loaded panel.new.lamps result) (shown io.new) ≡ load_scene_at (rig_in here.now.here) panel.old.hushed.now i panel.old.lamps (shown io.old) }
+    ensures value { got (loaded panel.new.lamps result) (shown io.new) ≡ load_scene_at (rig_in here.now.here) panel.old.silenced_targets.now i panel.old.lamps (shown io.old) }
     ensures rest { LampsAlone panel.old panel.new }
     ensures flash { panel.new.lamps.flash ≡ panel.old.lamps.flash }
 {
@@ -57,6 +57,6 @@ pub fn load_scene_at(io: &mut Io<'_>, here: &Accepted<'_>, panel: &mut Panel<'_>
         return false;
     }
     after_load(&mut panel.lamps, here.here.bank, i as u32);
-    surface::lamps::push_state(io, &here.here, &panel.lamps, panel.hushed);
+    surface::lamps::push_state(io, &here.here, &panel.lamps, panel.silenced_targets);
     true
 }

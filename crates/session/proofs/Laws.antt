@@ -19,14 +19,14 @@ use Rattle.base.proofs.BesideLaws as side
 use Rattle.base.proofs.KeyedLaws as laws
 use Rattle.base.proofs.StdLaws.{find-find}
 use Rattle.lookup.specs.Lookup.{dest_at}
-use Rattle.session.specs.Session.{Turn, turn_at, turns_up_to, is_encoder, wires_to, is_dest, add_to, first_turn, turn, RoomToTurn, Hushed, hushed_at, hushed_up_to, hushed_level, hush, unhush, has_room, same_target, is_target, other_target, is_strip, strip_at}
+use Rattle.session.specs.Session.{Turn, turn_at, turns_up_to, is_encoder, wires_to, is_dest, add_to, first_turn, turn, RoomToTurn, SilencedLevel, silenced_at, silenced_up_to, level_before, insert_level, remove_level, has_room, same_target, is_target, other_target, is_strip, strip_at}
 use Rattle.session.specs.declared.Strip.{Strip}
 use Rattle.session.specs.WellLists.{sums_in}
 use Rattle.session.proofs.SessionLaws.{sums_long, same_sum}
 
 -- what stands past an array's end
-abbrev pub no_hushed : Hushed
-no_hushed = record { target = 0; level = nan }
+abbrev pub none_silenced : SilencedLevel
+none_silenced = record { target = 0; level = nan }
 
 -- ── room for one more, where the search gave place i ──
 module _ {A : Type 0} (f : A → Bool) (d : A) (xs : List A) (n i top : ℕ) (long : length xs ≡ top) (within : n ≤ top) (e : i ≡ at f (take n xs)) where
@@ -83,22 +83,22 @@ strip_by_find number l = find-find (is_strip number) l
 -- what a search among the first n of the targets shows of both arrays
 module _ (target : ℕ) (ts : List ℕ) (ls : List Float) (n i : ℕ) (lt : length ts ≡ 256) (ll : length ls ≡ 256) (within : n ≤ 256)
     (e : i ≡ at (same_target target) (take n ts)) where
-  abbrev pairs : List Hushed
-  pairs = beside hushed_at ts ls
+  abbrev pairs : List SilencedLevel
+  pairs = beside silenced_at ts ls
 
   pairs_long : length pairs ≡ 256
-  pairs_long = side.beside-length hushed_at ts ls (omega arith) ∙ lt
+  pairs_long = side.beside-length silenced_at ts ls (omega arith) ∙ lt
 
   same_place : i ≡ at (is_target target) (take n pairs)
-  same_place = side.beside-place hushed_at (is_target target) (same_target target) (λ x y. refl) ts ls (omega arith) n i (omega arith) e
+  same_place = side.beside-place silenced_at (is_target target) (same_target target) (λ x y. refl) ts ls (omega arith) n i (omega arith) e
 
-  pub level_there : i < n → hushed_level target (hushed_up_to n ts ls) ≡ Some (get_or ls i nan)
-  unfolding hushed_level
-  level_there h = rw (side.beside-take hushed_at n ts ls, laws.found (is_target target) no_hushed pairs n i same_place (omega (arith, pairs_long)) h, side.beside-get_or hushed_at 0 nan ts ls i (omega arith))
+  pub level_there : i < n → level_before target (silenced_up_to n ts ls) ≡ Some (get_or ls i nan)
+  unfolding level_before
+  level_there h = rw (side.beside-take silenced_at n ts ls, laws.found (is_target target) none_silenced pairs n i same_place (omega (arith, pairs_long)) h, side.beside-get_or silenced_at 0 nan ts ls i (omega arith))
 
-  pub level_missing : n ≤ i → hushed_level target (hushed_up_to n ts ls) ≡ None
-  unfolding hushed_level
-  level_missing h = rw (side.beside-take hushed_at n ts ls, laws.not_found (is_target target) no_hushed pairs n i same_place (omega (arith, pairs_long)) h)
+  pub level_missing : n ≤ i → level_before target (silenced_up_to n ts ls) ≡ None
+  unfolding level_before
+  level_missing h = rw (side.beside-take silenced_at n ts ls, laws.not_found (is_target target) none_silenced pairs n i same_place (omega (arith, pairs_long)) h)
 
   -- the place that is written lies within the array
   pub place-within : has_room target (take n ts) ≡ true → i < 256
@@ -112,18 +112,18 @@ module _ (target : ℕ) (ts : List ℕ) (ls : List Float) (n i : ℕ) (lt : leng
           let m : n < 256 = seen_roomy (same_target target) 0 ts n i 256 lt within e h r in
           omega (arith, laws.found_le (same_target target) 0 ts n i e (omega arith))
 
-  pub hushed_there : (v : Float) → i < n → hushed_up_to n (set ts i target) (set ls i v) ≡ hush target v (hushed_up_to n ts ls)
-  unfolding hush
-  hushed_there v h =
-      rw (side.beside-take hushed_at n (set ts i target) (set ls i v), side.beside-set hushed_at ts ls i target v, side.beside-take hushed_at n ts ls)
-      (laws.change_in (is_target target) no_hushed pairs n i same_place (λ z. hushed_at target v) (hushed_at target v) (omega (arith, pairs_long)) h)
+  pub silenced_there : (v : Float) → i < n → silenced_up_to n (set ts i target) (set ls i v) ≡ insert_level target v (silenced_up_to n ts ls)
+  unfolding insert_level
+  silenced_there v h =
+      rw (side.beside-take silenced_at n (set ts i target) (set ls i v), side.beside-set silenced_at ts ls i target v, side.beside-take silenced_at n ts ls)
+      (laws.change_in (is_target target) none_silenced pairs n i same_place (λ z. silenced_at target v) (silenced_at target v) (omega (arith, pairs_long)) h)
 
-  pub hushed_behind : (v : Float) → n ≤ i → i < 256 → hushed_up_to (n + 1) (set ts i target) (set ls i v) ≡ hush target v (hushed_up_to n ts ls)
-  unfolding hush
-  hushed_behind v h m =
+  pub silenced_behind : (v : Float) → n ≤ i → i < 256 → silenced_up_to (n + 1) (set ts i target) (set ls i v) ≡ insert_level target v (silenced_up_to n ts ls)
+  unfolding insert_level
+  silenced_behind v h m =
       let q : i ≡ n = omega (arith, laws.found_le (same_target target) 0 ts n i e (omega arith)) in
-      rw (q, side.beside-take hushed_at (n + 1) (set ts n target) (set ls n v), side.beside-set hushed_at ts ls n target v, side.beside-take hushed_at n ts ls)
-      (laws.change_out (is_target target) no_hushed pairs n i same_place (λ z. hushed_at target v) (hushed_at target v) (omega (arith, pairs_long)) h)
+      rw (q, side.beside-take silenced_at (n + 1) (set ts n target) (set ls n v), side.beside-set silenced_at ts ls n target v, side.beside-take silenced_at n ts ls)
+      (laws.change_out (is_target target) none_silenced pairs n i same_place (λ z. silenced_at target v) (silenced_at target v) (omega (arith, pairs_long)) h)
 
 -- one target goes: of the first j, those that stay are the first k, and what is behind is as it was
 pub record Closing (target : ℕ) (ts₀ : List ℕ) (ls₀ : List Float) (ts : List ℕ) (ls : List Float) (k j : ℕ) : Type 0 where
@@ -131,72 +131,72 @@ pub record Closing (target : ℕ) (ts₀ : List ℕ) (ls₀ : List Float) (ts : 
   pub levels_were : length ls₀ ≡ 256
   pub targets_long : length ts ≡ 256
   pub levels_long : length ls ≡ 256
-  pub so_far : hushed_up_to k ts ls ≡ unhush target (hushed_up_to j ts₀ ls₀)
+  pub so_far : silenced_up_to k ts ls ≡ remove_level target (silenced_up_to j ts₀ ls₀)
   pub targets_left : (i : ℕ) → j ≤ i → get_or ts i 0 ≡ get_or ts₀ i 0
   pub levels_left : (i : ℕ) → j ≤ i → get_or ls i nan ≡ get_or ls₀ i nan
 
 pub closing_none : (target : ℕ) (ts : List ℕ) (ls : List Float) → length ts ≡ 256 → length ls ≡ 256 → Closing target ts ls ts ls 0 0
-unfolding unhush
+unfolding remove_level
 closing_none target ts ls lt ll =
     record {
       targets_were = lt;
       levels_were = ll;
       targets_long = lt;
       levels_long = ll;
-      so_far = rw (side.beside-take hushed_at 0 ts ls) (laws.keep-none (other_target target) no_hushed (beside hushed_at ts ls));
+      so_far = rw (side.beside-take silenced_at 0 ts ls) (laws.keep-none (other_target target) none_silenced (beside silenced_at ts ls));
       targets_left = λ i h. refl;
       levels_left = λ i h. refl;
     }
 
 module _ (target : ℕ) (ts₀ : List ℕ) (ls₀ : List Float) (ts : List ℕ) (ls : List Float) (k j : ℕ) (s : Closing target ts₀ ls₀ ts ls k j)
     (inside : j < 256) (behind : k ≤ j) where
-  abbrev was : List Hushed
-  was = beside hushed_at ts₀ ls₀
+  abbrev was : List SilencedLevel
+  was = beside silenced_at ts₀ ls₀
 
-  abbrev are : List Hushed
-  are = beside hushed_at ts ls
+  abbrev are : List SilencedLevel
+  are = beside silenced_at ts ls
 
   was_long : length was ≡ 256
-  was_long = side.beside-length hushed_at ts₀ ls₀ (s.targets_were ∙ sym s.levels_were) ∙ s.targets_were
+  was_long = side.beside-length silenced_at ts₀ ls₀ (s.targets_were ∙ sym s.levels_were) ∙ s.targets_were
 
   are_long : length are ≡ 256
-  are_long = side.beside-length hushed_at ts ls (s.targets_long ∙ sym s.levels_long) ∙ s.targets_long
+  are_long = side.beside-length silenced_at ts ls (s.targets_long ∙ sym s.levels_long) ∙ s.targets_long
 
   kept : take k are ≡ keep (other_target target) (take j was)
-  unfolding unhush
-  kept = sym (side.beside-take hushed_at k ts ls) ∙ s.so_far ∙ ap (keep (other_target target)) (side.beside-take hushed_at j ts₀ ls₀)
+  unfolding remove_level
+  kept = sym (side.beside-take silenced_at k ts ls) ∙ s.so_far ∙ ap (keep (other_target target)) (side.beside-take silenced_at j ts₀ ls₀)
 
-  the_next : get_or was j no_hushed ≡ hushed_at (get_or ts j 0) (get_or ls j nan)
-  the_next = rw (s.targets_left j (omega arith), s.levels_left j (omega arith)) (side.beside-get_or hushed_at 0 nan ts₀ ls₀ j (s.targets_were ∙ sym s.levels_were))
+  the_next : get_or was j none_silenced ≡ silenced_at (get_or ts j 0) (get_or ls j nan)
+  the_next = rw (s.targets_left j (omega arith), s.levels_left j (omega arith)) (side.beside-get_or silenced_at 0 nan ts₀ ls₀ j (s.targets_were ∙ sym s.levels_were))
 
   pub closing_yes : eqb (get_or ts j 0) target ≡ false → Closing target ts₀ ls₀ (set ts k (get_or ts j 0)) (set ls k (get_or ls j nan)) (k + 1) (j + 1)
-  unfolding unhush
+  unfolding remove_level
   closing_yes g =
-      let o : other_target target (get_or was j no_hushed) ≡ true = rw (the_next, g) in
+      let o : other_target target (get_or was j none_silenced) ≡ true = rw (the_next, g) in
       record {
         targets_were = s.targets_were;
         levels_were = s.levels_were;
         targets_long = length-set ts k (get_or ts j 0) ∙ s.targets_long;
         levels_long = length-set ls k (get_or ls j nan) ∙ s.levels_long;
         so_far =
-            rw (side.beside-take hushed_at (k + 1) (set ts k (get_or ts j 0)) (set ls k (get_or ls j nan)), side.beside-set hushed_at ts ls k (get_or ts j 0) (get_or ls j nan), ← the_next, side.beside-take hushed_at (j + 1) ts₀ ls₀)
-            (laws.keep_yes (other_target target) no_hushed are was k j kept (omega (arith, are_long)) (omega (arith, was_long)) o);
+            rw (side.beside-take silenced_at (k + 1) (set ts k (get_or ts j 0)) (set ls k (get_or ls j nan)), side.beside-set silenced_at ts ls k (get_or ts j 0) (get_or ls j nan), ← the_next, side.beside-take silenced_at (j + 1) ts₀ ls₀)
+            (laws.keep_yes (other_target target) none_silenced are was k j kept (omega (arith, are_long)) (omega (arith, was_long)) o);
         targets_left = λ i h. get_or-set_other ts k i (get_or ts j 0) 0 (λ q. omega arith) ∙ s.targets_left i (omega arith);
         levels_left = λ i h. get_or-set_other ls k i (get_or ls j nan) nan (λ q. omega arith) ∙ s.levels_left i (omega arith);
       }
 
   pub closing_no : eqb (get_or ts j 0) target ≡ true → Closing target ts₀ ls₀ ts ls k (j + 1)
-  unfolding unhush
+  unfolding remove_level
   closing_no g =
-      let o : other_target target (get_or was j no_hushed) ≡ false = rw (the_next, g) in
+      let o : other_target target (get_or was j none_silenced) ≡ false = rw (the_next, g) in
       record {
         targets_were = s.targets_were;
         levels_were = s.levels_were;
         targets_long = s.targets_long;
         levels_long = s.levels_long;
         so_far =
-            rw (side.beside-take hushed_at k ts ls, side.beside-take hushed_at (j + 1) ts₀ ls₀)
-            (laws.keep_no (other_target target) no_hushed are was k j kept (omega (arith, was_long)) o);
+            rw (side.beside-take silenced_at k ts ls, side.beside-take silenced_at (j + 1) ts₀ ls₀)
+            (laws.keep_no (other_target target) none_silenced are was k j kept (omega (arith, was_long)) o);
         targets_left = λ i h. s.targets_left i (omega arith);
         levels_left = λ i h. s.levels_left i (omega arith);
       }

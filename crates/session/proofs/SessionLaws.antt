@@ -17,12 +17,12 @@ use Rattle.base.proofs.RangeLaws.{and_left, and_right}
 use Rattle.base.proofs.Pigeon.{pigeon, has_room_for, all_so, all-change, once_change, once_keep, left_of_lem, right_of, first_no, rest_no, no_left, no_right}
 use Rattle.profile.specs.Profile.{records, is_kind}
 use Rattle.lookup.specs.declared.Destination.{Destination}
-use Rattle.session.specs.Session.{is_channel, move_of, place_move, has_place, Turn, turn_at, is_encoder, wires_to, is_dest, same_turn, add_to, first_turn, turn, Hushed, hushed_at, hushed_up_to, targets_of, hush, other_target, unhush, seen_strips, strips_if, good_strip, same_number, on_surface, strip_of, strips_of, low_channel}
+use Rattle.session.specs.Session.{is_channel, move_of, place_move, has_place, Turn, turn_at, is_encoder, wires_to, is_dest, same_turn, add_to, first_turn, turn, SilencedLevel, silenced_at, silenced_up_to, targets_of, insert_level, other_target, remove_level, seen_strips, strips_if, good_strip, same_number, on_surface, strip_of, strips_of, low_channel}
 use Rattle.drivers.specs.declared.LiveFader.{LiveFader}
 use Rattle.session.specs.declared.Move.{Move}
 use Rattle.session.specs.declared.Strip.{Strip}
 use Rattle.session.specs.declared.Strips.{Strips}
-use Rattle.session.specs.WellLists.{WellLine, WellStrips, same_hushed, same_fader, sums_in}
+use Rattle.session.specs.WellLists.{WellLine, WellStrips, same_silenced, same_fader, sums_in}
 
 -- ── any list ──
 
@@ -126,13 +126,13 @@ line_place l ch v w h =
 
 -- ── silenced levels ──
 
-pub hush_once : (l : List Hushed) (target : ℕ) (v : Float) → no_twice same_hushed l ≡ true → no_twice same_hushed (hush target v l) ≡ true
-unfolding hush
-hush_once l target v e = once_change (λ h. h.target) target (λ h. hushed_at target v) (hushed_at target v) (λ h. refl) refl l e
+pub insert_level_once : (l : List SilencedLevel) (target : ℕ) (v : Float) → no_twice same_silenced l ≡ true → no_twice same_silenced (insert_level target v l) ≡ true
+unfolding insert_level
+insert_level_once l target v e = once_change (λ h. h.target) target (λ h. silenced_at target v) (silenced_at target v) (λ h. refl) refl l e
 
-pub unhush_once : (l : List Hushed) (target : ℕ) → no_twice same_hushed l ≡ true → no_twice same_hushed (unhush target l) ≡ true
-unfolding unhush
-unhush_once l target e = once_keep same_hushed (other_target target) l e
+pub remove_level_once : (l : List SilencedLevel) (target : ℕ) → no_twice same_silenced l ≡ true → no_twice same_silenced (remove_level target l) ≡ true
+unfolding remove_level
+remove_level_once l target e = once_keep same_silenced (other_target target) l e
 
 -- ── the encoders' sums ──
 
@@ -230,7 +230,7 @@ is_known s l e = go s.known e
     go false q = cc
 
 -- the targets of what is silenced are the first of their array
-pub targets_seen : (n : ℕ) (ts : List ℕ) (ls : List Float) → n ≤ length ls → targets_of (hushed_up_to n ts ls) ≡ take n ts
+pub targets_seen : (n : ℕ) (ts : List ℕ) (ls : List Float) → n ≤ length ls → targets_of (silenced_up_to n ts ls) ≡ take n ts
 unfolding beside
 targets_seen zero ts ls h = refl
 targets_seen (suc n) [] ls h = refl

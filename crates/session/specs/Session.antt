@@ -142,53 +142,53 @@ pub record RoomToTurn (p ks : List ℕ) (ns : List ℤ) (n k : ℕ) (delta : ℤ
 -- ── silenced levels: `value_before`, kept by target alone ──
 
 -- a target and the level that it had before it was silenced
-pub record Hushed : Type 0 where
+pub record SilencedLevel : Type 0 where
   pub target : ℕ
   pub level : Float
 
-abbrev pub hushed_at : ℕ → Float → Hushed
-hushed_at target v = record { target = target; level = v }
+abbrev pub silenced_at : ℕ → Float → SilencedLevel
+silenced_at target v = record { target = target; level = v }
 
 -- the first n of both arrays
-abbrev pub hushed_up_to : ℕ → List ℕ → List Float → List Hushed
-hushed_up_to n ts ls = beside hushed_at (take n ts) (take n ls)
+abbrev pub silenced_up_to : ℕ → List ℕ → List Float → List SilencedLevel
+silenced_up_to n ts ls = beside silenced_at (take n ts) (take n ls)
 
-abbrev pub seen_silenced : Silenced → List Hushed
-seen_silenced s = hushed_up_to s.count s.targets s.levels
+abbrev pub seen_silenced : Silenced → List SilencedLevel
+seen_silenced s = silenced_up_to s.count s.targets s.levels
 
 -- the targets alone: what the lamps need to know
-abbrev pub targets_of : List Hushed → List ℕ
+abbrev pub targets_of : List SilencedLevel → List ℕ
 targets_of l = map (λ e. e.target) l
 
 abbrev pub same_target : ℕ → ℕ → Bool
 same_target target t = eqb t target
 
-abbrev pub is_target : ℕ → Hushed → Bool
+abbrev pub is_target : ℕ → SilencedLevel → Bool
 is_target target e = eqb e.target target
 
-abbrev pub other_target : ℕ → Hushed → Bool
+abbrev pub other_target : ℕ → SilencedLevel → Bool
 other_target target e = not (eqb e.target target)
 
 -- the target is one of those silenced
-unfoldable pub is_hushed : ℕ → List ℕ → Bool
-is_hushed target l = any_of (same_target target) l
+unfoldable pub is_silenced : ℕ → List ℕ → Bool
+is_silenced target l = any_of (same_target target) l
 
-abbrev pub level_for : Option Hushed → Option Float
+abbrev pub level_for : Option SilencedLevel → Option Float
 level_for None = None
 level_for (Some e) = Some e.level
 
-unfoldable pub hushed_level : ℕ → List Hushed → Option Float
-hushed_level target l = level_for (find (is_target target) l)
+unfoldable pub level_before : ℕ → List SilencedLevel → Option Float
+level_before target l = level_for (find (is_target target) l)
 
-unfoldable pub hush : ℕ → Float → List Hushed → List Hushed
-hush target v l = change (is_target target) (λ e. hushed_at target v) (hushed_at target v) l
+unfoldable pub insert_level : ℕ → Float → List SilencedLevel → List SilencedLevel
+insert_level target v l = change (is_target target) (λ e. silenced_at target v) (silenced_at target v) l
 
 -- there is a place for the target
 unfoldable pub has_room : ℕ → List ℕ → Bool
 has_room target l = pick (any_of (same_target target) l) true (ltb (length l) 256)
 
-unfoldable pub unhush : ℕ → List Hushed → List Hushed
-unhush target l = keep (other_target target) l
+unfoldable pub remove_level : ℕ → List SilencedLevel → List SilencedLevel
+remove_level target l = keep (other_target target) l
 
 -- ── live lists ──
 

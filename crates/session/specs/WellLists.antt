@@ -3,7 +3,7 @@ use Rattle.std.specs.Prelude.{ℕ, ◌≤◌, ◌≡◌, Bool, eqb, length, ℤ}
 use Rattle.std.proofs.Math.Bool.{true}
 use mathlib.Core.List.{List}
 use Rattle.base.specs.Keyed.{all_of, no_twice, beside}
-use Rattle.session.specs.Session.{same_channel, Turn, turn_at, Hushed, good_strip, same_number, low_channel}
+use Rattle.session.specs.Session.{same_channel, Turn, turn_at, SilencedLevel, good_strip, same_number, low_channel}
 use Rattle.drivers.specs.declared.LiveFader.{LiveFader}
 use Rattle.session.specs.declared.Move.{Move}
 use Rattle.session.specs.declared.Strip.{Strip}
@@ -13,8 +13,8 @@ pub record WellLine (l : List Move) : Type 0 where
   pub low : all_of low_channel l ≡ true
   pub once : no_twice same_channel l ≡ true
 
-abbrev pub same_hushed : Hushed → Hushed → Bool
-same_hushed a b = eqb a.target b.target
+abbrev pub same_silenced : SilencedLevel → SilencedLevel → Bool
+same_silenced a b = eqb a.target b.target
 
 -- the sums that wait, each beside the record of its encoder
 abbrev pub sums_in : List ℕ → List ℕ → List ℤ → List Turn

@@ -11,7 +11,7 @@ ghost use Rattle.std.specs.Prelude.{◌≡◌};
 ghost use Rattle.session.specs.Session.{fresh_session};
 
 pub use desk::find_turn;
-pub use muting::is_hushed;
+pub use muting::is_silenced;
 
 // ── where we are ──
 

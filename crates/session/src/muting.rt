@@ -2,15 +2,15 @@
 // as 0.
 ghost use Rattle.std.specs.Prelude.{◌≡◌, true, ◌≤◌, replicate, take, position};
 ghost use Rattle.float.specs.Leaf.{f0};
-ghost use Rattle.session.specs.Session.{seen_silenced, targets_of, same_target, is_hushed, hushed_level, hush, unhush, has_room};
+ghost use Rattle.session.specs.Session.{seen_silenced, targets_of, same_target, is_silenced, level_before, insert_level, remove_level, has_room};
 
 use crate::Silenced;
 
 // The target is one of those silenced.
-pub fn is_hushed(hushed: &[u16], target: u16) -> bool
-    ensures { result ≡ is_hushed target hushed.now }
+pub fn is_silenced(silenced_targets: &[u16], target: u16) -> bool
+    ensures { result ≡ is_silenced target silenced_targets.now }
 {
-    hushed.contains(&target)
+    silenced_targets.contains(&target)
 }
 
 impl Silenced {
@@ -46,17 +46,17 @@ impl Silenced {
     // The level kept for the target, if it is silenced.
     pub fn level(&self, target: u16) -> Option<f64>
         requires { self.now.count ≤ 256 }
-        ensures { result ≡ hushed_level target (seen_silenced self.now) }
+        ensures { result ≡ level_before target (seen_silenced self.now) }
     {
         let i = self.find(target)?;
         Some(self.levels[i])
     }
 
     // The target's level is kept, in its place or behind the others.
-    pub fn hush(&mut self, target: u16, level: f64)
+    pub fn insert_level(&mut self, target: u16, level: f64)
         requires count_bound { self.old.count ≤ 256 }
         requires room { has_room target (take self.old.count self.old.targets) ≡ true }
-        ensures levels_after { seen_silenced self.new ≡ hush target level (seen_silenced self.old) }
+        ensures levels_after { seen_silenced self.new ≡ insert_level target level (seen_silenced self.old) }
         ensures upper_bound { self.new.count ≤ 256 }
     {
         let i = self.find(target).unwrap_or(self.count);
@@ -66,9 +66,9 @@ impl Silenced {
     }
 
     // The target's level is kept no more, and the others close up. The loop counts by hand: two arrays, side by side, close up in place.
-    pub fn unhush(&mut self, target: u16)
+    pub fn remove_level(&mut self, target: u16)
         requires { self.old.count ≤ 256 }
-        ensures levels_after { seen_silenced self.new ≡ unhush target (seen_silenced self.old) }
+        ensures levels_after { seen_silenced self.new ≡ remove_level target (seen_silenced self.old) }
         ensures upper_bound { self.new.count ≤ 256 }
     {
         let mut kept = 0;

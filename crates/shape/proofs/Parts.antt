@@ -9,14 +9,14 @@ use Rattle.session.specs.declared.Flash.{Flash}
 use Rattle.definition.specs.Shape.{shaped_silenced, well_shaped}
 
 -- n targets are silenced, the first of these, whatever their levels are; there is room for 256
-pub record Hushes (ts : List ℕ) (n : ℕ) (x : Silenced) : Type 0 where
+pub record Silences (ts : List ℕ) (n : ℕ) (x : Silenced) : Type 0 where
   pub targets : x.targets ≡ ts
   pub count : x.count ≡ n
   pub long : length x.levels ≡ 256
 
 -- r says whether they are well shaped
-abbrev pub TellsHushed : Bool → List ℕ → ℕ → Type 0
-TellsHushed r ts n = (x : Silenced) → Hushes ts n x → r ≡ shaped_silenced x
+abbrev pub TellsSilenced : Bool → List ℕ → ℕ → Type 0
+TellsSilenced r ts n = (x : Silenced) → Silences ts n x → r ≡ shaped_silenced x
 
 -- the session has these parts
 pub record HasParts (b : ℕ) (l : Line) (v : Live) (t : Turns) (ts : List ℕ) (n : ℕ) (f : Flash) (s : Session) : Type 0 where
@@ -24,7 +24,7 @@ pub record HasParts (b : ℕ) (l : Line) (v : Live) (t : Turns) (ts : List ℕ) 
   pub line : s.line ≡ l
   pub live : s.live ≡ v
   pub turns : s.turns ≡ t
-  pub silenced : Hushes ts n s.silenced
+  pub silenced : Silences ts n s.silenced
   pub flash : s.lamps.flash ≡ f
 
 -- r says whether a session with these parts is well shaped

@@ -6,8 +6,8 @@ use Rattle.base.specs.Keyed.{change, no_twice}
 use Rattle.base.proofs.KeyedLaws.{change_longer}
 use Rattle.lookup.specs.declared.Destination.{Destination}
 use Rattle.drivers.specs.Talk.{Talk, Got, got, next}
-use Rattle.session.specs.Session.{Hushed, targets_of, is_hushed, has_room, was_muted, note_muted, none_noted}
-use Rattle.session.specs.WellLists.{same_hushed}
+use Rattle.session.specs.Session.{SilencedLevel, targets_of, is_silenced, has_room, was_muted, note_muted, none_noted}
+use Rattle.session.specs.WellLists.{same_silenced}
 use Rattle.session.specs.declared.Lamps.{Lamps}
 use Rattle.definition.specs.Rig.{Rig, destination}
 use Rattle.definition.specs.Levels.{kept_by, has_mute}
@@ -45,7 +45,7 @@ one_peer r group p n x short e before i low high = go (leb i n) refl
 
 module _ (p : List (Option Destination)) where
   -- off
-  module _ (l : Lamps) (s : List Hushed) (t : Talk) where
+  module _ (l : Lamps) (s : List SilencedLevel) (t : Talk) where
     pub none_off : solo_off (seen_peers p) l 0 s t ≡ got s t
     unfolding solo_off
     none_off = refl
@@ -54,7 +54,7 @@ module _ (p : List (Option Destination)) where
         ≡ off_to (get_or p n None) (was_muted (n + 1) l) (solo_off (seen_peers p) l n s t).value (solo_off (seen_peers p) l n s t).talk
     unfolding solo_off next
     more_off n =
-        let r : Got (List Hushed) = solo_off (seen_peers p) l n s t in
+        let r : Got (List SilencedLevel) = solo_off (seen_peers p) l n s t in
         ap (λ m. solo_off (seen_peers p) l m s t) (add-one n) ∙ ap (λ x. off_to x (was_muted (n + 1) l) r.value r.talk) (numbered p n)
 
   -- what was muted
@@ -73,7 +73,7 @@ module _ (p : List (Option Destination)) where
         ∙ ap (λ x. got (note_muted (n + 1) (muted_to x ts r.talk).value r.value) (muted_to x ts r.talk).talk) (numbered p n)
 
   -- on
-  module _ (fader : ℕ) (s : List Hushed) (t : Talk) where
+  module _ (fader : ℕ) (s : List SilencedLevel) (t : Talk) where
     pub none_on : solo_on (seen_peers p) fader 0 s t ≡ got s t
     unfolding solo_on
     none_on = refl
@@ -82,7 +82,7 @@ module _ (p : List (Option Destination)) where
         ≡ on_to (get_or p n None) (not (eqb (n + 1) fader)) (solo_on (seen_peers p) fader n s t).value (solo_on (seen_peers p) fader n s t).talk
     unfolding solo_on next
     more_on n =
-        let r : Got (List Hushed) = solo_on (seen_peers p) fader n s t in
+        let r : Got (List SilencedLevel) = solo_on (seen_peers p) fader n s t in
         ap (λ m. solo_on (seen_peers p) fader m s t) (add-one n) ∙ ap (λ x. on_to x (not (eqb (n + 1) fader)) r.value r.talk) (numbered p n)
 
 -- ── room for each peer ──
@@ -97,7 +97,7 @@ adding_longer (Some d) ts l = go (has_mute d)
 
     go : (b : Bool) → length l ≤ length (add_target b (kept_by d) ts l)
     go true = omega arith
-    go false = at (is_hushed (kept_by d) ts)
+    go false = at (is_silenced (kept_by d) ts)
 
 -- more faders add no fewer targets
 adds_longer : (of : ℕ → Option Destination) (fader : ℕ) (ts : List ℕ) (m n : ℕ) → n ≤ m → length (solo_adds of fader ts n) ≤ length (solo_adds of fader ts m)
@@ -118,21 +118,21 @@ adds_longer of fader ts (suc m) n h = go (leb n m) refl (adds_longer of fader ts
         rw e (omega arith)
 
 -- a destination that m covers has room, if m is not too long
-room_covered : (m : List ℕ) (k : List Hushed) (d : Destination) → Covered m (Some d) → Within m k → length m ≤ 256 → room_for d (targets_of k) ≡ true
+room_covered : (m : List ℕ) (k : List SilencedLevel) (d : Destination) → Covered m (Some d) → Within m k → length m ≤ 256 → room_for d (targets_of k) ≡ true
 room_covered m k d h w few = go (has_mute d) refl
   where
     go : (b : Bool) → has_mute d ≡ b → pick b true (has_room (kept_by d) (targets_of k)) ≡ true
     go true e = refl
     go false e = room_within m k (kept_by d) w (h e) few
 
-both_fit : (s : List Hushed) (l : List ℕ) → length s + length l ≤ 256 → length (targets_of s ++ l) ≤ 256
+both_fit : (s : List SilencedLevel) (l : List ℕ) → length s + length l ≤ 256 → length (targets_of s ++ l) ≤ 256
 both_fit s l few =
     let same : length (targets_of s) ≡ length s = length-map s (λ x. x.target) in
     let long : length (targets_of s ++ l) ≡ length (targets_of s) + length l = length-append (targets_of s) l in
     omega arith
 
 -- k is within those held before and those added so far
-room_step : (s k : List Hushed) (adds : List ℕ) (self : Bool) (f : Option Destination) → Within (targets_of s ++ adds) k →
+room_step : (s k : List SilencedLevel) (adds : List ℕ) (self : Bool) (f : Option Destination) → Within (targets_of s ++ adds) k →
     length s + length (adding (pick self None f) (targets_of s) adds) ≤ 256 → room_to f (not self) (targets_of k) ≡ true
 room_step s k adds true f w few = refl
 room_step s k adds false None w few = refl
@@ -142,14 +142,14 @@ room_step s k adds false (Some d) w few =
     (both_fit s (adding (Some d) (targets_of s) adds) few)
 
 -- of 16 faders, whose targets fit, the next of n has room
-pub room_on : (p : List (Option Destination)) (fader : ℕ) (s : List Hushed) (t : Talk) → no_twice eqb (targets_of s) ≡ true →
-    length s + length (solo_adds (seen_peers p) fader (targets_of s) 16) ≤ 256 → (n : ℕ) → n < 16 → (k : List Hushed) (u : Talk) →
+pub room_on : (p : List (Option Destination)) (fader : ℕ) (s : List SilencedLevel) (t : Talk) → no_twice eqb (targets_of s) ≡ true →
+    length s + length (solo_adds (seen_peers p) fader (targets_of s) 16) ≤ 256 → (n : ℕ) → n < 16 → (k : List SilencedLevel) (u : Talk) →
     got k u ≡ solo_on (seen_peers p) fader n s t → room_to (get_or p n None) (not (eqb (n + 1) fader)) (targets_of k) ≡ true
 unfolding solo_adds
 room_on p fader s t o few n h k u a =
     let of = seen_peers p in
     let ts = targets_of s in
-    let once : no_twice same_hushed s ≡ true = sym (once_keys (λ x. x.target) s) ∙ o in
+    let once : no_twice same_silenced s ≡ true = sym (once_keys (λ x. x.target) s) ∙ o in
     let w : Within (ts ++ solo_adds of fader ts n) k =
     subst (Within (ts ++ solo_adds of fader ts n)) (sym (ap (λ g. g.value) a)) (solo_on_so s once of fader n t) in
     let next : length (solo_adds of fader ts (suc n)) ≤ length (solo_adds of fader ts 16) = adds_longer of fader ts 16 (suc n) (omega arith) in
@@ -163,7 +163,7 @@ module _ (f g : ℕ → Option Destination) where
   abbrev Agree : ℕ → Type 0
   Agree n = (i : ℕ) → 1 ≤ i → i ≤ n → f i ≡ g i
 
-  same_off : (l : Lamps) (n : ℕ) → Agree n → (s : List Hushed) (t : Talk) → solo_off f l n s t ≡ solo_off g l n s t
+  same_off : (l : Lamps) (n : ℕ) → Agree n → (s : List SilencedLevel) (t : Talk) → solo_off f l n s t ≡ solo_off g l n s t
   unfolding solo_off next
   same_off l zero h s t = refl
   same_off l (suc n) h s t = rw (same_off l n (λ i a b. h i a (omega arith)) s t, h (n + 1) (omega arith) (omega arith))
@@ -173,7 +173,7 @@ module _ (f g : ℕ → Option Destination) where
   same_noted ts zero h l t = refl
   same_noted ts (suc n) h l t = rw (same_noted ts n (λ i a b. h i a (omega arith)) l t, h (n + 1) (omega arith) (omega arith))
 
-  same_on : (fader n : ℕ) → Agree n → (s : List Hushed) (t : Talk) → solo_on f fader n s t ≡ solo_on g fader n s t
+  same_on : (fader n : ℕ) → Agree n → (s : List SilencedLevel) (t : Talk) → solo_on f fader n s t ≡ solo_on g fader n s t
   unfolding solo_on next
   same_on fader zero h s t = refl
   same_on fader (suc n) h s t = rw (same_on fader n (λ i a b. h i a (omega arith)) s t, h (n + 1) (omega arith) (omega arith))
@@ -189,11 +189,11 @@ module _ (r : Rig) (group : ℕ) (p : List (Option Destination)) (are : ArePeers
   abbrev lit : Got Soloed → Got Soloed
   lit g = got g.value (push_state r g.value.lamps (targets_of g.value.silenced) g.talk)
 
-  pub solo_over_off : (l : Lamps) (s : List Hushed) (t : Talk) → turn_off r group l s t ≡ lit (turned_off (seen_peers p) l s t)
+  pub solo_over_off : (l : Lamps) (s : List SilencedLevel) (t : Talk) → turn_off r group l s t ≡ lit (turned_off (seen_peers p) l s t)
   unfolding next
   solo_over_off l s t = rw (same_off (seen_peers p) (peer r group) l 16 are s t)
 
-  pub solo_over_on : (fader : ℕ) (l : Lamps) (s : List Hushed) (t : Talk) → turn_on r group fader l s t ≡ lit (turned_on (seen_peers p) fader l s t)
+  pub solo_over_on : (fader : ℕ) (l : Lamps) (s : List SilencedLevel) (t : Talk) → turn_on r group fader l s t ≡ lit (turned_on (seen_peers p) fader l s t)
   unfolding next
   solo_over_on fader l s t =
       rw (

@@ -2,7 +2,7 @@
 use Rattle.std.specs.Prelude.{ℕ, ◌-◌, ◌≤◌, ◌≡◌, Bool, true, List, get_or, None, Option}
 use Rattle.base.specs.Choice.{pick}
 use Rattle.lookup.specs.declared.Destination.{Destination}
-use Rattle.session.specs.Session.{Hushed}
+use Rattle.session.specs.Session.{SilencedLevel}
 use Rattle.session.specs.declared.Lamps.{Lamps}
 use Rattle.definition.specs.Rig.{Rig}
 use Rattle.definition.specs.Muting.{Soloed, peer}
@@ -20,5 +20,5 @@ ArePeers r group p = (n : ℕ) → 1 ≤ n → n ≤ 16 → seen_peers p n ≡ p
 abbrev pub room_to : Option Destination → Bool → List ℕ → Bool
 room_to f silence ts = pick silence (room_at f ts) true
 
-abbrev pub soloed_as : Lamps → List Hushed → Soloed
+abbrev pub soloed_as : Lamps → List SilencedLevel → Soloed
 soloed_as l s = record { lamps = l; silenced = s }

@@ -7,7 +7,7 @@ ghost use Rattle.std.specs.Prelude.{◌≡◌, true, ◌+◌, ◌≤◌, eqb, le
 ghost use Rattle.base.specs.Keyed.{no_twice};
 ghost use Rattle.drivers.specs.Talk.{got};
 ghost use Rattle.drivers.specs.Shown.{shown};
-ghost use Rattle.session.specs.Session.{seen_silenced, targets_of, is_hushed, has_room};
+ghost use Rattle.session.specs.Session.{seen_silenced, targets_of, is_silenced, has_room};
 ghost use Rattle.definition.specs.Levels.{kept_by};
 ghost use Rattle.definition.specs.Muting.{back_if, off_to, solo_off, note_if, silence_if, on_to, solo_on, solo_adds, added_by_solo, solo as solo_of};
 ghost use Rattle.rig.specs.Seen.{rig_in};
@@ -24,7 +24,7 @@ use session::{Lamps, Silenced};
 #[tactic(auto, using(mutes::proofs::HeldLaws::held_some, mutes::proofs::HeldLaws::held_none))]
 fn hand_back_kept(io: &mut Io<'_>, dest: Destination, silenced: &mut Silenced)
     requires { silenced.old.count ≤ 256 }
-    ensures line { got (seen_silenced silenced.new) (shown io.new) ≡ back_if (is_hushed (kept_by dest) (targets_of (seen_silenced silenced.old))) dest (seen_silenced silenced.old) (shown io.old) }
+    ensures line { got (seen_silenced silenced.new) (shown io.new) ≡ back_if (is_silenced (kept_by dest) (targets_of (seen_silenced silenced.old))) dest (seen_silenced silenced.old) (shown io.old) }
     ensures upper_bound { silenced.new.count ≤ 256 }
 {
     if let Some(before) = silenced.level(levels::kept_by(dest)) {
@@ -66,15 +66,15 @@ fn solo_off(io: &mut Io<'_>, peers: &Peers, lamps: &Lamps, silenced: &mut Silenc
 
 // What each peer's mute is before the solo. A second solo keeps what the first noted.
 #[tactic(auto, using(crate::proofs::Laws::none_noted_yet, crate::proofs::Laws::more_noted))]
-fn note_mutes(io: &mut Io<'_>, peers: &Peers, hushed: &[u16], lamps: &mut Lamps)
-    ensures { got lamps.new (shown io.new) ≡ note_if (eqb lamps.old.soloed 0) (seen_peers peers.now) hushed.now lamps.old (shown io.old) }
+fn note_mutes(io: &mut Io<'_>, peers: &Peers, silenced_targets: &[u16], lamps: &mut Lamps)
+    ensures { got lamps.new (shown io.new) ≡ note_if (eqb lamps.old.soloed 0) (seen_peers peers.now) silenced_targets.now lamps.old (shown io.old) }
 {
     if lamps.soloed != 0 {
         return;
     }
     lamps.none_noted();
     for (n, peer) in peers.iter().enumerate() {
-        let muted = surface::lamps::is_muted(io, *peer, hushed);
+        let muted = surface::lamps::is_muted(io, *peer, silenced_targets);
         lamps.note_muted(n as u8 + 1, muted);
     }
 }
@@ -84,28 +84,33 @@ fn note_mutes(io: &mut Io<'_>, peers: &Peers, hushed: &[u16], lamps: &mut Lamps)
 fn silence(io: &mut Io<'_>, dest: Destination, silenced: &mut Silenced)
     requires count_bound { silenced.old.count ≤ 256 }
     requires room { has_room (kept_by dest) (targets_of (seen_silenced silenced.old)) ≡ true }
-    ensures line { got (seen_silenced silenced.new) (shown io.new) ≡ silence_if (is_hushed (kept_by dest) (targets_of (seen_silenced silenced.old))) dest (seen_silenced silenced.old) (shown io.old) }
+    ensures line { got (seen_silenced silenced.new) (shown io.new) ≡ silence_if (is_silenced (kept_by dest) (targets_of (seen_silenced silenced.old))) dest (seen_silenced silenced.old) (shown io.old) }
     ensures upper_bound { silenced.new.count ≤ 256 }
 {
-    if !session::is_hushed(silenced.targets(), levels::kept_by(dest)) {
+    if !session::is_silenced(silenced.targets(), levels::kept_by(dest)) {
         mutes::keep_level(io, dest, silenced);
     }
     levels::write(io, dest, 0.0);
 }
 
 // A peer is silenced, or, being the soloed fader itself, plays.
-fn solo_peer(io: &mut Io<'_>, peer: Option<Destination>, hush: bool, silenced: &mut Silenced)
+fn solo_peer(
+    io: &mut Io<'_>,
+    peer: Option<Destination>,
+    insert_level: bool,
+    silenced: &mut Silenced,
+)
     requires count_bound { silenced.old.count ≤ 256 }
-    requires room { room_to peer hush (targets_of (seen_silenced silenced.old)) ≡ true }
-    ensures line { got (seen_silenced silenced.new) (shown io.new) ≡ on_to peer hush (seen_silenced silenced.old) (shown io.old) }
+    requires room { room_to peer insert_level (targets_of (seen_silenced silenced.old)) ≡ true }
+    ensures line { got (seen_silenced silenced.new) (shown io.new) ≡ on_to peer insert_level (seen_silenced silenced.old) (shown io.old) }
     ensures upper_bound { silenced.new.count ≤ 256 }
 {
     let Some(dest) = peer else {
         return;
     };
     if levels::has_mute(dest) {
-        mutes::set_mute(io, dest, hush);
-    } else if hush {
+        mutes::set_mute(io, dest, insert_level);
+    } else if insert_level {
         silence(io, dest, silenced);
     } else {
         hand_back_kept(io, dest, silenced);

@@ -33,7 +33,7 @@ fn send_phases(io: &mut Io<'_>, flash: Flash, due: u8)
 // Sends what is left of the flash, hands the row's channel back the position it was last seen at, and puts the real lamps back.
 #[tactic(auto, unfolding(definition::specs::Flash::finish_flash, definition::specs::Flash::send_home))]
 pub fn finish_flash(io: &mut Io<'_>, here: &Current<'_>, panel: &Panel<'_>)
-    ensures { shown io.new ≡ finish_flash (rig_in here.now) panel.now.lamps panel.now.hushed.now panel.now.moves.now (shown io.old) }
+    ensures { shown io.new ≡ finish_flash (rig_in here.now) panel.now.lamps panel.now.silenced_targets.now panel.now.moves.now (shown io.old) }
 {
     let flash = panel.lamps.flash;
     if !flash.on {
@@ -42,14 +42,14 @@ pub fn finish_flash(io: &mut Io<'_>, here: &Current<'_>, panel: &Panel<'_>)
     send_phases(io, flash, 6);
     let fader = usize::from(here.bank) * 16 + usize::from(flash.row);
     send_level(io, flash.row, panel.moves.last(fader));
-    push_state(io, here, &panel.lamps, panel.hushed);
+    push_state(io, here, &panel.lamps, panel.silenced_targets);
 }
 
 // Shows a number, once the flash that is still playing is finished. Beyond 64 there is nothing to show.
 #[tactic(auto, unfolding(definition::specs::Flash::flash_number, session::specs::Session::flashing, session::specs::Session::no_flash))]
 pub fn flash_number(io: &mut Io<'_>, here: &Current<'_>, panel: &mut Panel<'_>, n: usize, base: u8)
     requires { base ≤ 8 }
-    ensures value { got panel.new.lamps (shown io.new) ≡ flash_number (rig_in here.now) panel.old.hushed.now panel.old.moves.now panel.old.time n base panel.old.lamps (shown io.old) }
+    ensures value { got panel.new.lamps (shown io.new) ≡ flash_number (rig_in here.now) panel.old.silenced_targets.now panel.old.moves.now panel.old.time n base panel.old.lamps (shown io.old) }
     ensures rest { LampsAlone panel.old panel.new }
 {
     finish_flash(io, here, panel);
@@ -82,7 +82,7 @@ fn sent_up_to(flash: Flash, due: u8) -> Flash
 // Sends whatever phases of the flash are due by now, and ends it when its time is up.
 #[tactic(auto, unfolding(definition::specs::Flash::tick_flash, session::specs::Session::flashing, session::specs::Session::no_flash), using(crate::proofs::Laws::due_few))]
 pub fn tick_flash(io: &mut Io<'_>, here: &Current<'_>, panel: &mut Panel<'_>)
-    ensures value { got panel.new.lamps (shown io.new) ≡ tick_flash (rig_in here.now) panel.old.hushed.now panel.old.moves.now panel.old.time panel.old.lamps (shown io.old) }
+    ensures value { got panel.new.lamps (shown io.new) ≡ tick_flash (rig_in here.now) panel.old.silenced_targets.now panel.old.moves.now panel.old.time panel.old.lamps (shown io.old) }
     ensures rest { LampsAlone panel.old panel.new }
 {
     let flash = panel.lamps.flash;

@@ -14,22 +14,22 @@ use session::Lamps;
 
 // Whether what is wired here is muted; one whose mute cannot be read is not.
 #[tactic(auto, unfolding(drivers::specs::Talk::next))]
-pub fn is_muted_at(io: &mut Io<'_>, dest: Destination, hushed: &[u16]) -> bool
-    ensures { got result (shown io.new) ≡ muted_if (has_mute dest) dest hushed.now (shown io.old) }
+pub fn is_muted_at(io: &mut Io<'_>, dest: Destination, silenced_targets: &[u16]) -> bool
+    ensures { got result (shown io.new) ≡ muted_if (has_mute dest) dest silenced_targets.now (shown io.old) }
 {
     if levels::has_mute(dest) {
         levels::read_mute(io, dest).unwrap_or(false)
     } else {
-        session::is_hushed(hushed, levels::kept_by(dest))
+        session::is_silenced(silenced_targets, levels::kept_by(dest))
     }
 }
 
 // A fader without a destination is not muted.
-pub fn is_muted(io: &mut Io<'_>, to: Option<Destination>, hushed: &[u16]) -> bool
-    ensures { got result (shown io.new) ≡ muted_to to hushed.now (shown io.old) }
+pub fn is_muted(io: &mut Io<'_>, to: Option<Destination>, silenced_targets: &[u16]) -> bool
+    ensures { got result (shown io.new) ≡ muted_to to silenced_targets.now (shown io.old) }
 {
     match to {
-        Some(dest) => is_muted_at(io, dest, hushed),
+        Some(dest) => is_muted_at(io, dest, silenced_targets),
         None => false,
     }
 }
@@ -58,14 +58,20 @@ fn push_position(io: &mut Io<'_>, profile: &[u8], channel: u8, to: Option<Destin
 
 // The fader's position, then its four lamps. The square button's lamp is lit only where the profile gave it a job.
 #[tactic(auto, unfolding(definition::specs::Lamps::push_fader, definition::specs::Lamps::push_position, definition::specs::Lamps::is_muted))]
-fn push_fader(io: &mut Io<'_>, here: &Current<'_>, lamps: &Lamps, hushed: &[u16], channel: u8)
+fn push_fader(
+    io: &mut Io<'_>,
+    here: &Current<'_>,
+    lamps: &Lamps,
+    silenced_targets: &[u16],
+    channel: u8,
+)
     requires { channel < 8 }
-    ensures { shown io.new ≡ push_fader (rig_in here.now) lamps.now hushed.now channel (shown io.old) }
+    ensures { shown io.new ≡ push_fader (rig_in here.now) lamps.now silenced_targets.now channel (shown io.old) }
 {
     let number = channel + 1;
     let to = here.destination(number);
     push_position(io, here.profile, channel, to);
-    let muted = is_muted(io, to, hushed);
+    let muted = is_muted(io, to, silenced_targets);
     io.send_led(protocol::MUTE + channel, muted);
     io.send_led(protocol::SOLO + channel, lamps.soloed == number);
     io.send_led(protocol::REC + channel, lamps.loaded == number);
@@ -75,10 +81,10 @@ fn push_fader(io: &mut Io<'_>, here: &Current<'_>, lamps: &Lamps, hushed: &[u16]
 
 // Everything the surface can show of its faders. Lamps and targets go side by side: a mute and a solo change both, and a panel has more than is shown here.
 #[tactic(auto, unfolding(definition::specs::Lamps::push_state), using(crate::proofs::Laws::no_fader, crate::proofs::Laws::one_fader))]
-pub fn push_state(io: &mut Io<'_>, here: &Current<'_>, lamps: &Lamps, hushed: &[u16])
-    ensures { shown io.new ≡ push_state (rig_in here.now) lamps.now hushed.now (shown io.old) }
+pub fn push_state(io: &mut Io<'_>, here: &Current<'_>, lamps: &Lamps, silenced_targets: &[u16])
+    ensures { shown io.new ≡ push_state (rig_in here.now) lamps.now silenced_targets.now (shown io.old) }
 {
     for channel in 0..8 {
-        push_fader(io, here, lamps, hushed, channel);
+        push_fader(io, here, lamps, silenced_targets, channel);
     }
 }

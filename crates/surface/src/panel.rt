@@ -8,7 +8,7 @@ use session::{Lamps, Moves};
 #[derive(Clone, Copy)]
 pub struct Panel<'a> {
     pub lamps: Lamps,
-    pub hushed: &'a [u16],
+    pub silenced_targets: &'a [u16],
     pub moves: &'a Moves,
     pub time: f64,
     pub ghost playable: { has_note lamps.flash ≡ true },

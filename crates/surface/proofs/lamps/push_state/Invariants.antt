@@ -6,4 +6,4 @@ use Rattle.surface.proofs.lamps.push_state.Given as goal
 
 abbrev pub invariant-loop-channel : goal.invariant-loop-channel
 invariant-loop-channel l =
-    shown l.io ≡ push_faders (rig_in l.here) l.lamps l.hushed l.channel (shown l.initial.io)
+    shown l.io ≡ push_faders (rig_in l.here) l.lamps l.silenced_targets l.channel (shown l.initial.io)

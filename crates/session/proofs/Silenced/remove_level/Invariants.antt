@@ -1,6 +1,6 @@
 use Rattle.std.proofs.Common.{◌≡◌, ◌≤◌}
 use Rattle.session.proofs.Laws.{Closing}
-use Rattle.session.proofs.Silenced.unhush.Given as goal
+use Rattle.session.proofs.Silenced.remove_level.Given as goal
 
 abbrev pub invariant-loop-i : goal.invariant-loop-i
 invariant-loop-i l =

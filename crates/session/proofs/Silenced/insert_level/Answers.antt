@@ -2,9 +2,9 @@ use Rattle.std.proofs.Common.{◌≡◌, ◌∙◌, ◌<◌, ◌≤◌, ap, take
 use Rattle.base.specs.Keyed.{at}
 use Rattle.base.proofs.KeyedLaws as laws
 use Rattle.session.proofs.SearchLaws.{place-or-end}
-use Rattle.session.specs.Session.{same_target, hush, hushed_up_to, has_room}
-use Rattle.session.proofs.Laws.{place-within, hushed_there, hushed_behind}
-use Rattle.session.proofs.Silenced.hush.Goals as goal
+use Rattle.session.specs.Session.{same_target, insert_level, silenced_up_to, has_room}
+use Rattle.session.proofs.Laws.{place-within, silenced_there, silenced_behind}
+use Rattle.session.proofs.Silenced.insert_level.Goals as goal
 
 -- the place that the search gave, which is in the array
 place : (target : ℕ) (ts : List ℕ) (ls : List Float) (n i : ℕ) (r : Option ℕ) → length ts ≡ 256 → length ls ≡ 256 → n ≤ 256 →
@@ -31,17 +31,17 @@ returns-clause-upper_bound c =
 
 -- the target is in its place, or behind the others
 kept : (target : ℕ) (ts : List ℕ) (ls : List Float) (n i m : ℕ) (v : Float) → length ts ≡ 256 → length ls ≡ 256 → n ≤ 256 →
-    i ≡ at (same_target target) (take n ts) → i < 256 → m ≡ max n (i + 1) → hushed_up_to m (set ts i target) (set ls i v) ≡ hush target v (hushed_up_to n ts ls)
+    i ≡ at (same_target target) (take n ts) → i < 256 → m ≡ max n (i + 1) → silenced_up_to m (set ts i target) (set ls i v) ≡ insert_level target v (silenced_up_to n ts ls)
 kept target ts ls n i m v lt ll h e l q = go (ltb i n) refl
   where
-    go : (b : Bool) → ltb i n ≡ b → hushed_up_to m (set ts i target) (set ls i v) ≡ hush target v (hushed_up_to n ts ls)
+    go : (b : Bool) → ltb i n ≡ b → silenced_up_to m (set ts i target) (set ls i v) ≡ insert_level target v (silenced_up_to n ts ls)
     go true r =
         let k : m ≡ n = omega (arith, q, ltb-true i n r) in
-        rw k (hushed_there target ts ls n i lt ll h e v (ltb-true i n r))
+        rw k (silenced_there target ts ls n i lt ll h e v (ltb-true i n r))
     go false r =
         let w : i ≡ n = omega (arith, laws.found_le (same_target target) 0 ts n i e (omega arith), ltb-false i n r) in
         let k : m ≡ n + 1 = omega (arith, q) in
-        rw k (hushed_behind target ts ls n i lt ll h e v (ltb-false i n r) l)
+        rw k (silenced_behind target ts ls n i lt ll h e v (ltb-false i n r) l)
 
 pub returns-clause-levels_after : goal.returns-clause-levels_after
 returns-clause-levels_after c =

@@ -2,8 +2,8 @@ use Rattle.std.proofs.Common.{refl, rules, arith}
 use borrow.Author.Tests.{eq-eqb, ne_eqb}
 use Rattle.base.proofs.KeyedLaws as laws
 use Rattle.session.proofs.Laws.{closing_none, closing_yes, closing_no}
-use Rattle.session.proofs.Silenced.unhush.Goals as goal
-use Rattle.session.proofs.Silenced.unhush.Goals.{then-self-i, else-self-i}
+use Rattle.session.proofs.Silenced.remove_level.Goals as goal
+use Rattle.session.proofs.Silenced.remove_level.Goals.{then-self-i, else-self-i}
 
 pub loop-i-init : goal.loop-i-init
 loop-i-init c = (search rules, refl, closing_none _ _ _ (search laws.long) (search laws.long))

@@ -1,5 +1,5 @@
 // Standard output.
-ghost use Rattle.std.specs.Prelude.{◌≡◌, ◌+◌, ◌≤◌, ◌++◌, [], length, take};
+ghost use Rattle.std.specs.Prelude.{◌≡◌, ◌+◌, ◌≤◌, ◌++◌, [], IsOk, length, take};
 
 use crate::Sink;
 use std::fmt;
@@ -65,7 +65,11 @@ impl Sink for Stdout {
 impl fmt::Write for Stdout {
     ghost write_str_gives = { λ old piece new. old.used + length piece ≤ 4096 → take new.used new.bytes ≡ take old.used old.bytes ++ piece };
 
-    fn write_str(&mut self, s: &str) -> fmt::Result {
+    // It takes all, as `take` does.
+    fn write_str(&mut self, s: &str) -> fmt::Result
+        ensures all { IsOk result }
+        ensures held { self.old.used + length s.now ≤ 4096 → take self.new.used self.new.bytes ≡ take self.old.used self.old.bytes ++ s.now }
+    {
         self.take(s.as_bytes());
         Ok(())
     }

@@ -141,21 +141,26 @@ room_step s k adds false (Some d) w few =
     (grown (λ x. any_both (λ y. eqb y x) (targets_of s) adds (adding (Some d) (targets_of s) adds) (adding-more (targets_of s) adds (Some d) x)) w)
     (both_fit s (adding (Some d) (targets_of s) adds) few)
 
--- of 16 faders, whose targets fit, the next of n has room
-pub room_on : (p : List (Option Destination)) (fader : ℕ) (s : List SilencedLevel) (t : Talk) → no_twice eqb (targets_of s) ≡ true →
-    length s + length (solo_adds (seen_peers p) fader (targets_of s) 16) ≤ 256 → (n : ℕ) → n < 16 → (k : List SilencedLevel) (u : Talk) →
-    got k u ≡ solo_on (seen_peers p) fader n s t → room_to (get_or p n None) (not (eqb (n + 1) fader)) (targets_of k) ≡ true
+-- of `top` faders, whose targets fit, the next of n has room
+pub room_on : (of : ℕ → Option Destination) (fader top : ℕ) (s : List SilencedLevel) (t : Talk) → no_twice eqb (targets_of s) ≡ true →
+    length s + length (solo_adds of fader (targets_of s) top) ≤ 256 → (n : ℕ) → n < top → (k : List SilencedLevel) (u : Talk) →
+    got k u ≡ solo_on of fader n s t → (f : Option Destination) → f ≡ of (n + 1) → room_to f (not (eqb (n + 1) fader)) (targets_of k) ≡ true
 unfolding solo_adds
-room_on p fader s t o few n h k u a =
-    let of = seen_peers p in
+room_on of fader top s t o few n h k u a f e =
     let ts = targets_of s in
     let once : no_twice same_silenced s ≡ true = sym (once_keys (λ x. x.target) s) ∙ o in
     let w : Within (ts ++ solo_adds of fader ts n) k =
     subst (Within (ts ++ solo_adds of fader ts n)) (sym (ap (λ g. g.value) a)) (solo_on_so s once of fader n t) in
-    let next : length (solo_adds of fader ts (suc n)) ≤ length (solo_adds of fader ts 16) = adds_longer of fader ts 16 (suc n) (omega arith) in
+    let next : length (solo_adds of fader ts (suc n)) ≤ length (solo_adds of fader ts top) = adds_longer of fader ts top (suc n) (omega arith) in
     let fits : length s + length (adding (pick (eqb (n + 1) fader) None (of (n + 1))) ts (solo_adds of fader ts n)) ≤ 256 = omega arith in
-    subst (λ x. room_to x (not (eqb (n + 1) fader)) (targets_of k) ≡ true) (numbered p n)
+    subst (λ x. room_to x (not (eqb (n + 1) fader)) (targets_of k) ≡ true) (sym e)
     (room_step s k (solo_adds of fader ts n) (eqb (n + 1) fader) (of (n + 1)) w fits)
+
+-- the same of the array of 16 that the code has
+pub room_on_peers : (p : List (Option Destination)) (fader : ℕ) (s : List SilencedLevel) (t : Talk) → no_twice eqb (targets_of s) ≡ true →
+    length s + length (solo_adds (seen_peers p) fader (targets_of s) 16) ≤ 256 → (n : ℕ) → n < 16 → (k : List SilencedLevel) (u : Talk) →
+    got k u ≡ solo_on (seen_peers p) fader n s t → room_to (get_or p n None) (not (eqb (n + 1) fader)) (targets_of k) ≡ true
+room_on_peers p fader s t o few n h k u a = room_on (seen_peers p) fader 16 s t o few n h k u a (get_or p n None) (sym (numbered p n))
 
 -- ── two tables that agree on the faders 1 to n ──
 

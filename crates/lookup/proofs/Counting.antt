@@ -12,7 +12,8 @@ use Rattle.profile.specs.Profile.{records}
 use Rattle.lookup.specs.declared.Command.{Command}
 use Rattle.lookup.specs.declared.Entry.{Entry}
 use Rattle.lookup.specs.Gather.{gather}
-use Rattle.lookup.specs.Lookup.{is_entry, is_past, reach, entry, of_part, entry_at, transports_of, merged, before, times}
+use Rattle.lookup.specs.Lookup.{is_entry, is_past, reach, entry, of_part, entry_at, transports_of, place, merged, before, times}
+use Rattle.lookup.proofs.GatherLaws.{gather_yes, gather_no}
 use Rattle.lookup.proofs.LookupLaws.{entry-is}
 use Rattle.lookup.proofs.CommonLaws.{Best, times_at}
 
@@ -85,13 +86,33 @@ module _ (p : ℕ → Bool) where
 pub seen-one-more : (s ks rs : List ℕ) (k : ℕ) → rs ≡ ks ++ (k ∷ []) → map (entry_at s) rs ≡ map (entry_at s) ks ++ (entry_at s k ∷ [])
 seen-one-more s ks rs k e = rw (e, map-append)
 
--- making the list: it is l so far
-pub own_done : (s : List ℕ) (part k : ℕ) (l : List Entry) → l ≡ gather k (of_part s 5 part) (entry_at s) → reach s 5 ≡ k → l ≡ transports_of s part
-unfolding transports_of
-own_done s part k l is e = is ∙ rw e
+module _ (s : List ℕ) (part : ℕ) where
+  -- making the list: it is l so far
+  module _ (k : ℕ) (l : List Entry) (is : l ≡ gather k (of_part s 5 part) (entry_at s)) where
+    pub own_yes : (r : List Entry) → r ≡ l ++ (entry_at s k ∷ []) → of_part s 5 part k ≡ true → r ≡ gather (k + 1) (of_part s 5 part) (entry_at s)
+    own_yes r h y = h ∙ rw is (sym (gather_yes (of_part s 5 part) (entry_at s) k y))
+
+    pub own_no : of_part s 5 part k ≡ false → l ≡ gather (k + 1) (of_part s 5 part) (entry_at s)
+    own_no y = is ∙ sym (gather_no (of_part s 5 part) (entry_at s) k y)
+
+    pub own_done : reach s 5 ≡ k → l ≡ transports_of s part
+    unfolding transports_of
+    own_done e = is ∙ rw e
+
+-- one more global entry is placed last
+merged_snoc : (xs : List Entry) (e : Entry) (own : List Entry) → merged (xs ++ (e ∷ [])) own ≡ place e (merged xs own)
+unfolding merged
+merged_snoc [] e own = refl
+merged_snoc (x ∷ xs) e own = merged_snoc xs e (place x own)
 
 -- merging the globals: the list is l so far
 module _ (s : List ℕ) (k : ℕ) (own l : List Entry) (is : l ≡ merged (gather k (of_part s 5 255) (entry_at s)) own) where
+  pub merged_yes : (r : List Entry) → r ≡ place (entry_at s k) l → of_part s 5 255 k ≡ true → r ≡ merged (gather (k + 1) (of_part s 5 255) (entry_at s)) own
+  merged_yes r h y = h ∙ rw (is, gather_yes (of_part s 5 255) (entry_at s) k y) (sym (merged_snoc (gather k (of_part s 5 255) (entry_at s)) (entry_at s k) own))
+
+  pub merged_no : of_part s 5 255 k ≡ false → l ≡ merged (gather (k + 1) (of_part s 5 255) (entry_at s)) own
+  merged_no y = is ∙ rw (gather_no (of_part s 5 255) (entry_at s) k y)
+
   pub merged-done : reach s 5 ≡ k → l ≡ merged (transports_of s 255) own
   unfolding transports_of
   merged-done e = is ∙ rw e

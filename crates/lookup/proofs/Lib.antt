@@ -13,3 +13,4 @@ pub mod SceneLaws
 pub mod TransportLaws
 pub mod Known
 pub mod Counting
+pub mod Counted

@@ -14,3 +14,4 @@ pub mod TransportLaws
 pub mod Known
 pub mod Counting
 pub mod Counted
+pub mod Zeros

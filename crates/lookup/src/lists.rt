@@ -1,6 +1,7 @@
 // Short lists: the core has no heap, so that each is an array and how many of its places are taken. Each item has a list of its own, since an array of a
 // parameter's type is refused.
-ghost use Rattle.std.specs.Prelude.{◌≡◌, ◌∷◌, [], ◌++◌, ◌<◌, ◌≤◌, List, ℕ, length, take};
+ghost use Rattle.std.specs.Prelude.{◌≡◌, ◌∷◌, [], ◌++◌, ◌-◌, ◌<◌, ◌≤◌, List, ℕ, length, take, drop, replicate};
+ghost use Rattle.std.proofs.Common.{arith, length-take-le, take-append-drop};
 ghost use Rattle.lookup.specs.declared.Entry.{Entry};
 ghost use Rattle.lookup.specs.Lookup.{place};
 
@@ -66,8 +67,8 @@ impl Buttons {
     }
 }
 
-// The drivers of some faders, in the faders' order.
-#[derive(Drop)]
+// The drivers of some faders, in the faders' order. The places behind them are zeros, so that the list gives the array back: a copy needs that.
+#[derive(Clone, Copy)]
 pub struct Drivers {
     list: [u8; 16],
     count: usize,
@@ -78,7 +79,14 @@ impl Model for Drivers {
 
     ghost view = { λ d. take d.count d.list };
 
-    ghost invariant = { λ d. d.count ≤ 16 };
+    ghost invariant = { λ d. (d.count ≤ 16) × (length d.list ≡ 16) × (drop d.count d.list ≡ replicate (16 - d.count) 0) };
+
+    ghost inverse = { λ xs. record { list = xs ++ replicate (16 - length xs) 0; count = length xs } };
+
+    ghost inverse_ok = { λ d h.
+        let n : length (take d.count d.list) ≡ d.count = length-take-le d.count d.list (omega (arith, h.0, h.1)) in
+        let l : take d.count d.list ++ replicate (16 - length (take d.count d.list)) 0 ≡ d.list = rw (n, ← h.2) (take-append-drop d.count d.list) in
+        λ i. record { list = l i; count = n i } };
 }
 
 impl Drivers {

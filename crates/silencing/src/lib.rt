@@ -8,7 +8,7 @@ ghost use Rattle.definition.specs.Muting.{adding, solo_adds, added_by_solo, adde
 ghost use Rattle.rig.specs.Seen.{rig_in};
 ghost use Rattle.solos.specs.Peers.{seen_peers};
 
-use added::Added;
+pub use added::Added;
 use lookup::Destination;
 use rig::{Current, levels};
 use session::Lamps;

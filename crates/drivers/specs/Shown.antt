@@ -4,6 +4,7 @@ use Rattle.base.specs.Words.{le16, le32, le64, bytes16, bytes32, bytes64}
 use Rattle.drivers.specs.Answers.{items_of, is_list}
 use Rattle.drivers.specs.Talk.{Talk, Reply as Answered, Listed, send}
 use Rattle.drivers.specs.declared.Call.{Call}
+use Rattle.drivers.specs.declared.LiveFader.{LiveFader}
 use Rattle.drivers.specs.declared.line.Io.{Io}
 use Rattle.drivers.specs.declared.line.Stop.{Stop}
 use Rattle.drivers.specs.declared.line.Reply.{Reply}
@@ -108,6 +109,10 @@ pub record Listing (kind : ℕ) (r : Reply) : Type 0 where
   pub scenes : r.count ≤ 128
   pub live : kind ≡ 9 → r.count ≤ 32
   pub none : is_list r.answer ≡ false → r.count ≡ 0
+
+-- a fader of zeros: it stands in each place of an array that no fader takes
+abbrev pub no_fader : LiveFader
+no_fader = record { number = 0; target = 0; label = 0; group = 0; mute = 0 }
 
 -- a list that is handed on, if there is one
 module _ {A : Type 0} where

@@ -30,7 +30,7 @@ impl Stop {
 
 // The line of an event: the answers and how many bytes of them are read, the calls asked and the messages sent, each with the buffer in which they stand,
 // the drivers that are open, and why it stopped. The three buffers keep their counts beside them: the core has fixed memory, and the layout is document 01's.
-#[derive(Drop)]
+#[derive(Clone, Copy)]
 pub struct Io<'a> {
     pub answers: &'a [u8],
     pub calls: [u8; 5392],

@@ -7,3 +7,4 @@ pub mod KeyedLaws
 pub mod Pigeon
 pub mod WordsLaws
 pub mod StdLaws
+pub mod FilledLaws

@@ -5,3 +5,4 @@ pub mod Keyed
 pub mod Words
 pub mod Tail
 pub mod Same
+pub mod Filled

@@ -1,7 +1,6 @@
 pub mod AnswersLaws
 pub mod BytesLaws
 pub mod PairedLaws
-pub mod ListsLaws
 pub mod Laws
 pub mod Paired
 pub mod Numbers

@@ -1,7 +1,8 @@
 // Lists that a driver hands over: the core has no heap, so that each is an array and how many of its places are taken. Each item has a list of its own, since
 // an array of a parameter's type is refused. A place that is not taken holds zeros, so that the items alone say what the array is, and a list can be copied.
-ghost use Rattle.std.specs.Prelude.{◌≡◌, ◌∷◌, [], ◌++◌, ◌<◌, ◌≤◌, ◌-◌, List, ℕ, length, take, drop, replicate};
-ghost use Rattle.std.proofs.Common.{arith, length-take-le, take-append-drop};
+ghost use Rattle.std.specs.Prelude.{◌≡◌, ◌∷◌, [], ◌++◌, ◌<◌, ◌≤◌, List, ℕ, length, take};
+ghost use Rattle.base.specs.Filled.{Filled, filled_with};
+ghost use Rattle.base.proofs.FilledLaws.{given_back, taken};
 ghost use Rattle.drivers.specs.declared.LiveFader.{LiveFader};
 ghost use Rattle.drivers.specs.Shown.{no_fader};
 
@@ -20,11 +21,11 @@ impl Model for Names {
 
     ghost view = { λ n. take n.count n.list };
 
-    ghost invariant = { λ n. (n.count ≤ 128) × (length n.list ≡ 128) × (drop n.count n.list ≡ replicate (128 - n.count) 0) };
+    ghost invariant = { λ n. Filled 128 0 n.list n.count };
 
-    ghost inverse = { λ xs. record { list = xs ++ replicate (128 - length xs) 0; count = length xs } };
+    ghost inverse = { λ xs. record { list = filled_with 128 0 xs; count = length xs } };
 
-    ghost inverse_ok = { λ n h. rw (length-take-le n.count n.list (omega (arith, h.0, h.1)), ← h.2, take-append-drop n.count n.list) };
+    ghost inverse_ok = { λ n h i. record { list = given_back 128 0 n.list n.count h i; count = taken 128 0 n.list n.count h i } };
 }
 
 impl Names {
@@ -65,11 +66,11 @@ impl Model for LiveFaders {
 
     ghost view = { λ f. take f.count f.list };
 
-    ghost invariant = { λ f. (f.count ≤ 32) × (length f.list ≡ 32) × (drop f.count f.list ≡ replicate (32 - f.count) no_fader) };
+    ghost invariant = { λ f. Filled 32 no_fader f.list f.count };
 
-    ghost inverse = { λ xs. record { list = xs ++ replicate (32 - length xs) no_fader; count = length xs } };
+    ghost inverse = { λ xs. record { list = filled_with 32 no_fader xs; count = length xs } };
 
-    ghost inverse_ok = { λ f h. rw (length-take-le f.count f.list (omega (arith, h.0, h.1)), ← h.2, take-append-drop f.count f.list) };
+    ghost inverse_ok = { λ f h i. record { list = given_back 32 no_fader f.list f.count h i; count = taken 32 no_fader f.list f.count h i } };
 }
 
 impl LiveFaders {

@@ -14,4 +14,3 @@ pub mod TransportLaws
 pub mod Known
 pub mod Counting
 pub mod Counted
-pub mod Zeros

@@ -1,7 +1,8 @@
 // Short lists: the core has no heap, so that each is an array and how many of its places are taken. Each item has a list of its own, since an array of a
 // parameter's type is refused.
-ghost use Rattle.std.specs.Prelude.{◌≡◌, ◌∷◌, [], ◌++◌, ◌-◌, ◌<◌, ◌≤◌, List, ℕ, length, take, drop, replicate};
-ghost use Rattle.std.proofs.Common.{arith, length-take-le, take-append-drop};
+ghost use Rattle.std.specs.Prelude.{◌≡◌, ◌∷◌, [], ◌++◌, ◌<◌, ◌≤◌, List, ℕ, length, take};
+ghost use Rattle.base.specs.Filled.{Filled, filled_with};
+ghost use Rattle.base.proofs.FilledLaws.{given_back, taken};
 ghost use Rattle.lookup.specs.declared.Entry.{Entry};
 ghost use Rattle.lookup.specs.Lookup.{place};
 
@@ -79,14 +80,11 @@ impl Model for Drivers {
 
     ghost view = { λ d. take d.count d.list };
 
-    ghost invariant = { λ d. (d.count ≤ 16) × (length d.list ≡ 16) × (drop d.count d.list ≡ replicate (16 - d.count) 0) };
+    ghost invariant = { λ d. Filled 16 0 d.list d.count };
 
-    ghost inverse = { λ xs. record { list = xs ++ replicate (16 - length xs) 0; count = length xs } };
+    ghost inverse = { λ xs. record { list = filled_with 16 0 xs; count = length xs } };
 
-    ghost inverse_ok = { λ d h.
-        let n : length (take d.count d.list) ≡ d.count = length-take-le d.count d.list (omega (arith, h.0, h.1)) in
-        let l : take d.count d.list ++ replicate (16 - length (take d.count d.list)) 0 ≡ d.list = rw (n, ← h.2) (take-append-drop d.count d.list) in
-        λ i. record { list = l i; count = n i } };
+    ghost inverse_ok = { λ d h i. record { list = given_back 16 0 d.list d.count h i; count = taken 16 0 d.list d.count h i } };
 }
 
 impl Drivers {

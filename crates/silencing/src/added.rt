@@ -1,7 +1,8 @@
 // The targets that a press adds to those silenced. The core has no heap, so that they are an array and how many of its places are taken.
 // It is a list of its own, as the players of crate transport are: one list for both would be an array of a parameter's type, which is refused.
-ghost use Rattle.std.specs.Prelude.{◌≡◌, [], ◌++◌, ◌+◌, ◌-◌, ◌<◌, ◌≤◌, List, ℕ, length, take, drop, replicate};
-ghost use Rattle.std.proofs.Common.{arith, length-take-le, take-append-drop};
+ghost use Rattle.std.specs.Prelude.{◌≡◌, [], ◌+◌, ◌<◌, ◌≤◌, List, ℕ, length, take};
+ghost use Rattle.base.specs.Filled.{Filled, filled_with};
+ghost use Rattle.base.proofs.FilledLaws.{given_back, taken};
 ghost use Rattle.base.specs.Keyed.{change};
 ghost use Rattle.definition.specs.Muting.{is_same};
 
@@ -19,14 +20,11 @@ impl Model for Added {
 
     ghost view = { λ a. take a.count a.list };
 
-    ghost invariant = { λ a. (a.count ≤ 16) × (length a.list ≡ 16) × (drop a.count a.list ≡ replicate (16 - a.count) 0) };
+    ghost invariant = { λ a. Filled 16 0 a.list a.count };
 
-    ghost inverse = { λ xs. record { list = xs ++ replicate (16 - length xs) 0; count = length xs } };
+    ghost inverse = { λ xs. record { list = filled_with 16 0 xs; count = length xs } };
 
-    ghost inverse_ok = { λ a h.
-        let n : length (take a.count a.list) ≡ a.count = length-take-le a.count a.list (omega (arith, h.0, h.1)) in
-        let l : take a.count a.list ++ replicate (16 - length (take a.count a.list)) 0 ≡ a.list = rw (n, ← h.2) (take-append-drop a.count a.list) in
-        λ i. record { list = l i; count = n i } };
+    ghost inverse_ok = { λ a h i. record { list = given_back 16 0 a.list a.count h i; count = taken 16 0 a.list a.count h i } };
 }
 
 impl Added {

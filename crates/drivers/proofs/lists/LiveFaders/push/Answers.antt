@@ -1,6 +1,6 @@
 use Rattle.std.proofs.Common.{arith}
 use Rattle.drivers.specs.Shown.{no_fader}
-use Rattle.drivers.proofs.ListsLaws.{one_more}
+use Rattle.base.proofs.FilledLaws.{one_more}
 use Rattle.drivers.proofs.lists.LiveFaders.push.Goals as goal
 
 pub invariant_of-self : goal.invariant_of-self

@@ -1,5 +1,5 @@
 use Rattle.std.proofs.Common.{arith}
-use Rattle.drivers.proofs.ListsLaws.{one_more}
+use Rattle.base.proofs.FilledLaws.{one_more}
 use Rattle.drivers.proofs.lists.Names.push.Goals as goal
 
 pub invariant_of-self : goal.invariant_of-self

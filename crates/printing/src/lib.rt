@@ -1,7 +1,7 @@
 #![tactic(auto)]
 
-// What the programs write. Each text of `specs/Text` has a type here: what it puts is the definition's bytes, whatever sink takes them. `Stdout` is the sink that hands
-// them to the system.
+// What the programs write. Each text of `specs/Text` has a type here: what it puts is the definition's bytes, whatever sink takes them. `Held` is a sink that hands on
+// to the one behind it what it was given, whatever sink that is, and `Stdout` is that over the system.
 mod lines;
 mod stdout;
 #[cfg(test)]
@@ -13,7 +13,7 @@ ghost use Rattle.std.specs.Fmt.{WritesInCalls};
 ghost use Rattle.printing.specs.Text.{decimal, bits, word, level, hex as hex_of};
 
 pub use lines::{Counts, ProfileRefused, Refused, Step, Waiting};
-pub use stdout::Stdout;
+pub use stdout::{Held, Stdout, System};
 pub use text::{Printed, Sink, Text};
 pub use wire::{CallLine, Calls, MessageLine, Messages, kind_name};
 

@@ -29,7 +29,7 @@ module _ {W : Type 0} {took : W → List ℕ → W → Type 0} where
       }
 
   -- at last what is held is handed on, and so all is
-  pub hand_last : {w v u : W} {held piece left : List ℕ} → HandsOn took w held piece v left → WritesInCalls took v left u → WritesInCalls took w (held ++ piece) u
+  hand_last : {w v u : W} {held piece left : List ℕ} → HandsOn took w held piece v left → WritesInCalls took v left u → WritesInCalls took w (held ++ piece) u
   hand_last p q = put_as p.whole (put_two p.calls q)
 
 module _ {W V : Type 0} (took : W → List ℕ → W → Type 0) (gives : V → List ℕ → V → Type 0) (behind : V → W) (held : V → List ℕ)
@@ -39,5 +39,12 @@ module _ {W V : Type 0} (took : W → List ℕ → W → Type 0) (gives : V → 
   hand_parts a (x ∷ xs) b p = hand_two (each a p.0 x p.1) (hand_parts p.0 xs b p.2)
 
   -- the pieces of a text
-  pub hand_all : (a b : V) (text : List ℕ) → WritesInCalls gives a text b → HandsOn took (behind a) (held a) text (behind b) (held b)
+  hand_all : (a b : V) (text : List ℕ) → WritesInCalls gives a text b → HandsOn took (behind a) (held a) text (behind b) (held b)
   hand_all a b text p = subst (λ (l : List ℕ). HandsOn took (behind a) (held a) l (behind b) (held b)) p.whole (hand_parts a p.parts b p.calls)
+
+  -- of a text over a sink w, with nothing held before it and the rest handed on behind it
+  pub hand_whole : (w : W) (a b : V) (text : List ℕ) (u : W) → held a ≡ [] → behind a ≡ w → WritesInCalls gives a text b → WritesInCalls took (behind b) (held b) u →
+      WritesInCalls took w text u
+  hand_whole w a b text u none same p q =
+      subst (λ (x : W). WritesInCalls took x text u) same
+      (hand_last (subst (λ (l : List ℕ). HandsOn took (behind a) l text (behind b) (held b)) none (hand_all a b text p)) q)

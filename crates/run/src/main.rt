@@ -16,7 +16,7 @@ ghost use Rattle.run.specs.Said.{event_text, became, goes_on, records, events_te
 ghost use Rattle.profile.specs.Profile.{verdict};
 
 use delivery::Outcome;
-use printing::{ProfileRefused, Sink, Stdout, Text};
+use printing::{Held, ProfileRefused, Sink, System, Text};
 use session::Session;
 use told::Told;
 
@@ -98,6 +98,16 @@ fn whole<S: Sink>(out: &mut S, profile: &[u8], events: &[u8], answers: &[u8])
     }
 }
 
+// The program over a sink, which is handed all of the text, in order, and nothing else: the sink behind it is given back.
+fn handed<S: Sink>(system: S, profile: &[u8], events: &[u8], answers: &[u8]) -> S
+    ensures { WritesInCalls S.takes system (program_text profile.now events.now answers.now) result }
+{
+    let mut out = Held::over(system);
+    whole(&mut out, profile, events, answers);
+    out.flush();
+    out.into_behind()
+}
+
 fn main(rt: HostRuntime) {
     let mut profile_room = io::large_buffer();
     let mut events_room = io::large_buffer();
@@ -105,7 +115,5 @@ fn main(rt: HostRuntime) {
     let profile = files::load(&rt, "profile.bin", 32, &mut profile_room);
     let events = files::load(&rt, "events.bin", 16, &mut events_room);
     let answers = files::load(&rt, "answers.bin", 16, &mut answers_room);
-    let mut out = Stdout::new();
-    whole(&mut out, profile, events, answers);
-    out.flush();
+    handed(System, profile, events, answers);
 }

@@ -1,7 +1,7 @@
 // Texts, and what takes them. A text is put piece by piece, and a sink takes each piece: neither can fail, where a `Display` answers a `Result`, so that what it
 // promises of its bytes has a condition.
-ghost use Rattle.std.specs.Prelude.{ℕ, List, ⊤};
-ghost use Rattle.std.specs.Fmt.{WritesInCalls};
+ghost use Rattle.std.specs.Prelude.{◌≡◌, ℕ, List, Some, IsOk};
+ghost use Rattle.std.specs.Fmt.{WritesInCalls, IsPlainFormatter, HasWritten};
 
 use std::{fmt, str};
 
@@ -34,6 +34,8 @@ impl Text for &str {
 pub struct Printed<T>(pub T);
 
 impl<T: Text + Drop> fmt::Display for Printed<T> {
+    ghost output = { λ p. Some (T.text p.0) };
+
     fn fmt<W: fmt::Write>(&self, f: &mut fmt::Formatter<W>) -> fmt::Result {
         let mut out = Format { f, result: Ok(()) };
         self.0.put(&mut out);
@@ -49,7 +51,9 @@ struct Format<'a, W> {
 }
 
 impl<W: fmt::Write> Sink for Format<'_, W> {
-    ghost takes = { λ _ _ _. ⊤ };
+    // Where there is no error behind a piece, there was none before it, and the formatter has written the piece.
+    ghost takes = { λ old piece new. (new.f.ghost_name ≡ old.f.ghost_name)
+        × (IsOk new.result → IsOk old.result × (IsPlainFormatter old.f.now → HasWritten W.write_str_gives old.f.now piece new.f.now)) };
 
     fn take(&mut self, piece: &[u8]) {
         if self.result.is_ok() {

@@ -94,7 +94,7 @@ call_joined c =
     (ap (λ (l : List ℕ). word c.driver ++ l) (sym (append_assoc (word c.name) (word c.argument) (level c.level ++ line_end)))
     ∙ sym (append_assoc (word c.driver) (word c.name ++ word c.argument) (level c.level ++ line_end)))
 
-message_after : (ms : List (List ℕ)) (m : List ℕ) → message_lines (ms ++ (m ∷ [])) ≡ message_lines ms ++ message_line m
+pub message_after : (ms : List (List ℕ)) (m : List ℕ) → message_lines (ms ++ (m ∷ [])) ≡ message_lines ms ++ message_line m
 unfolding message_lines
 message_after [] m = append-nil (message_line m)
 message_after (n ∷ ms) m = ap (λ (l : List ℕ). message_line n ++ l) (message_after ms m) ∙ sym (append_assoc (message_line n) (message_lines ms) (message_line m))

@@ -4,9 +4,12 @@ use Rattle.std.proofs.Common.{arith, length-append}
 use Rattle.std.proofs.Math.Path.{refl}
 use Rattle.base.specs.Choice.{pick}
 use Rattle.drivers.specs.declared.Call.{Call}
+use Rattle.drivers.specs.Shown.{calls_in, message_at, messages_in}
+use Rattle.drivers.proofs.BytesLaws.{calls_length}
 use Rattle.io.specs.Digits.{hex_digit_ascii}
 use Rattle.printing.specs.Ascii.{ascii}
-use Rattle.printing.specs.Text.{decimal_in, decimal, bits, hex, word, level, line_end, kind_word, call_words, call_line, call_lines, message_line, step_words, count_words, profile_line, refused_line, waiting_lines}
+use Rattle.printing.specs.Text.{decimal_in, decimal, bits, hex, word, level, line_end, kind_word, call_words, call_line, call_lines, message_line, message_lines, step_words, count_words, profile_line, refused_line, waiting_lines}
+use Rattle.printing.proofs.Laws.{message_after}
 
 digits_most : (more n : ℕ) → length (decimal_in more n) ≤ suc more
 unfolding decimal_in
@@ -49,7 +52,7 @@ kind_most (suc (suc (suc (suc (suc (suc (suc zero))))))) = omega arith
 kind_most (suc (suc (suc (suc (suc (suc (suc (suc zero)))))))) = omega arith
 kind_most (suc (suc (suc (suc (suc (suc (suc (suc (suc n))))))))) = omega arith
 
-call_words_most : (c : Call) → length (call_words c) ≤ 63
+pub call_words_most : (c : Call) → length (call_words c) ≤ 63
 call_words_most c =
     omega (arith, length-append (word c.driver) (word c.name ++ word c.argument), length-append (word c.name) (word c.argument), word_most c.driver, word_most c.name, word_most c.argument)
 
@@ -76,6 +79,23 @@ calls_most (c ∷ cs) = omega (arith, length-append (call_line c) (call_lines cs
 pub message_length : (m : List ℕ) → length m ≡ 3 → length (message_line m) ≡ 15
 unfolding message_line
 message_length m three = omega (arith, length-append (ascii "message ") (hex m ++ line_end), length-append (hex m) line_end, hex_length m, three)
+
+-- the first n messages of a buffer
+pub messages_length : (n : ℕ) (ms : List ℕ) → length (message_lines (messages_in n ms)) ≡ 15 * n
+unfolding messages_in message_lines
+messages_length zero ms = refl
+messages_length (suc n) ms =
+    rw (message_after (messages_in n ms) (message_at ms (3 * n)))
+    (omega (
+      arith,
+      length-append (message_lines (messages_in n ms)) (message_line (message_at ms (3 * n))),
+      messages_length n ms,
+      message_length (message_at ms (3 * n)) refl,
+    ))
+
+-- the first n calls of a buffer
+pub calls_in_most : (n : ℕ) (cs : List ℕ) → length (call_lines (calls_in n cs)) ≤ 93 * n
+calls_in_most n cs = omega (arith, calls_most (calls_in n cs), calls_length n cs)
 
 pub step_most : (what : List ℕ) (n : ℕ) → length (step_words what n) ≤ length what + 21
 step_most what n = omega (arith, length-append what (word n), word_most n)

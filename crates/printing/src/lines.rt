@@ -4,15 +4,15 @@ ghost use Rattle.printing.specs.Text.{step_words, count_words, profile_line, ref
 use crate::{CallLine, Sink, Text, Word};
 use drivers::Call;
 
-// What begins a line: what it is of, and its number.
+// What begins a line: what it is of, which can be any text or any bytes, and its number.
 #[derive(Clone, Copy)]
-pub struct Step<'a> {
-    pub what: &'a str,
+pub struct Step<W> {
+    pub what: W,
     pub n: usize,
 }
 
-impl Text for Step<'_> {
-    ghost text = { λ s. step_words s.what.now s.n };
+impl<W: Text> Text for Step<W> {
+    ghost text = { λ s. step_words (W.text s.what) s.n };
 
     fn put<S: Sink>(&self, out: &mut S) {
         self.what.put(out);
@@ -56,13 +56,13 @@ impl Text for ProfileRefused {
 
 // A step that was refused: an event or a restore.
 #[derive(Clone, Copy)]
-pub struct Refused<'a> {
-    pub step: Step<'a>,
+pub struct Refused<W> {
+    pub step: Step<W>,
     pub why: u8,
 }
 
-impl Text for Refused<'_> {
-    ghost text = { λ r. refused_line r.step.what.now r.step.n r.why };
+impl<W: Text> Text for Refused<W> {
+    ghost text = { λ r. refused_line (W.text r.step.what) r.step.n r.why };
 
     #[tactic(auto, unfolding(crate::specs::Text::refused_line))]
     fn put<S: Sink>(&self, out: &mut S) {

@@ -90,6 +90,11 @@ fn lines(rt: HostRuntime) -> Result<(), Fail> {
         call: call(1),
     };
     assert_eq!(rt; Printed(step).to_string(heap)?.as_str(), "restore 7");
+    let bytes = Step {
+        what: b"restore".as_slice(),
+        n: 7,
+    };
+    assert_eq!(rt; Printed(bytes).to_string(heap)?.as_str(), "restore 7");
     assert_eq!(rt;
         Printed(counts).to_string(heap)?.as_str(),
         " done messages 4 calls 5"

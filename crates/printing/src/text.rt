@@ -29,6 +29,15 @@ impl Text for &str {
     }
 }
 
+// Any bytes, which need not be text.
+impl Text for &[u8] {
+    ghost text = { λ b. b.now };
+
+    fn put<S: Sink>(&self, out: &mut S) {
+        out.take(self);
+    }
+}
+
 // A text in a format, as the programs that only test write theirs.
 #[derive(Clone, Copy)]
 pub struct Printed<T>(pub T);

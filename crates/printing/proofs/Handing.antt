@@ -9,7 +9,7 @@ use Rattle.printing.proofs.Puts.{put_none, put_one, put_two, put_as}
 
 module _ {W : Type 0} {took : W → List ℕ → W → Type 0} where
   -- a piece that is held with the rest
-  pub hand_held : {w v : W} {held piece left : List ℕ} → v ≡ w → left ≡ held ++ piece → HandsOn took w held piece v left
+  hand_held : {w v : W} {held piece left : List ℕ} → v ≡ w → left ≡ held ++ piece → HandsOn took w held piece v left
   hand_held {w = w} {held = held} {piece = piece} {left = left} same is =
       subst (λ (x : W). HandsOn took w held piece x left) (sym same) (record { handed = []; calls = put_none; whole = is })
 

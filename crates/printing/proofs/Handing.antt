@@ -14,7 +14,8 @@ module _ {W : Type 0} {took : W → List ℕ → W → Type 0} where
       subst (λ (x : W). HandsOn took w held piece x left) (sym same) (record { handed = []; calls = put_none; whole = is })
 
   -- what was held is handed on, and the piece too, and of the bytes bs none is held
-  pub hand_both : {w v u : W} {held piece : List ℕ} (bs : List ℕ) (n : ℕ) → n ≡ 0 → WritesInCalls took w held v → took v piece u → HandsOn took w held piece u (take n bs)
+  pub hand_both : {w v u : W} {held piece : List ℕ} (bs : List ℕ) (n : ℕ) → n ≡ 0 → WritesInCalls took w held v → took v piece u →
+      HandsOn took w held piece u (take n bs)
   hand_both {held = held} {piece = piece} bs n none p t =
       rw none (record { handed = held ++ piece; calls = put_two p (put_one t); whole = append-nil (held ++ piece) })
 
@@ -43,8 +44,8 @@ module _ {W V : Type 0} (took : W → List ℕ → W → Type 0) (gives : V → 
   hand_all a b text p = subst (λ (l : List ℕ). HandsOn took (behind a) (held a) l (behind b) (held b)) p.whole (hand_parts a p.parts b p.calls)
 
   -- of a text over a sink w, with nothing held before it and the rest handed on behind it
-  pub hand_whole : (w : W) (a b : V) (text : List ℕ) (u : W) → held a ≡ [] → behind a ≡ w → WritesInCalls gives a text b → WritesInCalls took (behind b) (held b) u →
-      WritesInCalls took w text u
+  pub hand_whole : (w : W) (a b : V) (text : List ℕ) (u : W) → held a ≡ [] → behind a ≡ w → WritesInCalls gives a text b →
+      WritesInCalls took (behind b) (held b) u → WritesInCalls took w text u
   hand_whole w a b text u none same p q =
       subst (λ (x : W). WritesInCalls took x text u) same
       (hand_last (subst (λ (l : List ℕ). HandsOn took (behind a) l text (behind b) (held b)) none (hand_all a b text p)) q)

@@ -29,7 +29,7 @@ module _ {W V N : Type 0} (took : W → List ℕ → W → Type 0) (gives : V �
     written_all a b text p = subst (λ (l : List ℕ). Wrote a l b) p.whole (written_parts a p.parts b p.calls)
 
     -- g is what the formatter came to
-    pub written_to : (a b : V) (text : List ℕ) (g : Formatter W) → IsPlainFormatter (f a) → Fine b → (name b ≡ name a → g ≡ f b) → WritesInCalls gives a text b →
-        HasWritten took (f a) text g
+    pub written_to : (a b : V) (text : List ℕ) (g : Formatter W) → IsPlainFormatter (f a) → Fine b → (name b ≡ name a → g ≡ f b) →
+        WritesInCalls gives a text b → HasWritten took (f a) text g
     written_to a b text g plain fine back p =
         let all = written_all a b text p in subst (λ (h : Formatter W). HasWritten took (f a) text h) (sym (back all.0)) ((all.1 fine).1 plain)

@@ -2,7 +2,7 @@
 use Rattle.std.specs.Prelude.{ℕ, ◌≡◌, List, ◌++◌}
 use Rattle.std.specs.Fmt.{WritesInCalls}
 
--- with so much held, the piece took the sink behind from w to v, and left so much held: what was handed on, and behind it what is left, is what was held and the piece
+-- of what was held and a piece, in order, the first part was handed on, which took the sink behind from w to v, and the rest is left
 pub record HandsOn {W : Type 0} (took : W → List ℕ → W → Type 0) (w : W) (held piece : List ℕ) (v : W) (left : List ℕ) : Type 0 where
   pub handed : List ℕ
   pub calls : WritesInCalls took w handed v

@@ -1,7 +1,7 @@
 #![tactic(auto)]
 
-// What the programs write. Each text of `specs/Text` has a type here: what it puts is the definition's bytes, whatever sink takes them. `Held` is a sink that hands on
-// to the one behind it what it was given, whatever sink that is, and `Stdout` is that over the system.
+// What the programs write. Each text of `specs/Text` has a type here: what it puts is the definition's bytes, whatever sink takes them. `Held` is a
+// sink that hands on to the one behind it what it was given, whatever sink that is, and `Stdout` is that over the system.
 mod lines;
 mod stdout;
 #[cfg(test)]

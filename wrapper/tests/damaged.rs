@@ -1,4 +1,5 @@
-//! Sessions that no event leaves: whoever hands one in is refused with 8, and nothing is touched. The recording has none.
+//! What no host should hand in. A session that no event leaves is refused with 8, and nothing is touched; the recording has none. A long list of saved records
+//! is refused with 7 by its length alone.
 
 use zelwydro::raw::{self, Flash, Session};
 
@@ -58,4 +59,20 @@ fn what_does_not_fit_the_profile_or_the_surface_is_refused() {
     assert_eq!(refusal(|s| s.lamps.flash = Flash { base: 1, ..FLASH }), 8);
     assert_eq!(refusal(|s| s.lamps.flash = Flash { column: 8, ..FLASH }), 8);
     assert_eq!(refusal(|s| s.lamps.flash = Flash { sent: 0, ..FLASH }), 8);
+}
+
+/// Compared in pairs, as the records of a list that fits are, these took seconds.
+#[test]
+fn a_long_list_of_saved_records_is_refused_by_its_length() {
+    let names = (0..=u16::MAX).flat_map(|name| [[2, 0], name.to_le_bytes(), [0; 2], [0; 2]]);
+    let mut saved: Vec<u8> = names.flatten().collect();
+    let before = raw::fresh();
+    for extra in 0..2 {
+        saved.resize(8 * 65_536 + extra, 0);
+        let start = std::time::Instant::now();
+        let restored = raw::restore(&before, &PROFILE, &saved);
+        assert_eq!(restored.why, 7);
+        assert!(restored.session == before);
+        assert!(start.elapsed().as_millis() < 200, "{extra} bytes over: {:?}", start.elapsed());
+    }
 }

@@ -1,7 +1,7 @@
 -- What a walk that counts up finds in a list that is made of the numbers passed, and the walks over a bank's scenes that count so. They are kept beside those
 -- of Counting, and for the same reason: the code goes by iterators now (Rows.antt). `scenes-counted` is the walk's own here; that of SceneLaws speaks of the
--- records that a lookup goes over. Assumes nothing.
-use Rattle.std.specs.Prelude.{ℕ, zero, suc, ◌+◌, ◌≤◌, ◌<◌, ◌≡◌, Bool, true, false, ◌&&◌, cond, List, [], ◌∷◌, ◌++◌, eqb, length, get_or, None, Option, Some}
+-- records that a lookup goes over; and `transport-is` is of the button, where that of TransportLaws is of its command. Assumes nothing.
+use Rattle.std.specs.Prelude.{ℕ, zero, suc, ◌+◌, ◌≤◌, ◌<◌, ◌≡◌, Bool, true, false, ◌&&◌, cond, List, [], ◌∷◌, ◌++◌, eqb, length, get_or, None, Option, Some, option_map}
 use Rattle.std.proofs.Math.Path.{refl}
 use Rattle.std.proofs.Common.{sym, ap, ◌∙◌, ⊎_elim, eq-or-lt_of_le, le_of_suc-le-suc, eq-eqb, ne_eqb, arith}
 use Rattle.std.proofs.Math.ListN.{get_or-eq_default, get_or-append}
@@ -14,9 +14,10 @@ use Rattle.base.proofs.FirstLaws.{first_more, first-hit}
 use Rattle.profile.specs.Profile.{half_at}
 use Rattle.profile.proofs.RangeMore.{count-lt}
 use Rattle.lookup.specs.Gather.{gather}
-use Rattle.lookup.specs.Lookup.{of_part, reach, scenes_of, position}
+use Rattle.lookup.specs.Lookup.{of_part, reach, entry, entry_at, command_at, scenes_of, position, transports_of, transport_of, bound_by}
 use Rattle.lookup.proofs.GatherLaws.{gather-length}
 use Rattle.lookup.proofs.Counting.{from, Walked}
+use Rattle.lookup.proofs.TransportLaws.{transport-is as runs_first}
 
 -- the first of two that is there
 abbrev either : {A : Type 0} → Option A → Option A → Option A
@@ -53,7 +54,8 @@ module _ {A : Type 0} (p : ℕ → Bool) (g : ℕ → A) where
     find-append [] ys = refl
     find-append (x ∷ xs) ys = go (f x) (find-append xs ys)
       where
-        go : (b : Bool) → find f (xs ++ ys) ≡ either (find f xs) (find f ys) → pick b (Some x) (find f (xs ++ ys)) ≡ either (pick b (Some x) (find f xs)) (find f ys)
+        go : (b : Bool) → find f (xs ++ ys) ≡ either (find f xs) (find f ys) →
+            pick b (Some x) (find f (xs ++ ys)) ≡ either (pick b (Some x) (find f xs)) (find f ys)
         go true ih = refl
         go false ih = ih
 
@@ -118,3 +120,13 @@ module _ (s : List ℕ) (b : ℕ) where
       pub position-done : reach s 4 ≡ k → None ≡ position name (scenes_of s b)
       unfolding position
       position-done e = rw (← scenes-counted e) (sym none)
+
+-- ── the first button of a kind ──
+
+bound_from : (s : List ℕ) (o : Option ℕ) → bound_by (from (entry_at s) o) ≡ option_map (command_at s) o
+bound_from s (Some k) = refl
+bound_from s None = refl
+
+-- the first of its kind in the list is the first record of the part and the kind
+pub transport-is : (s : List ℕ) (part kind : ℕ) → bound_by (from (entry_at s) (entry s 5 part kind)) ≡ transport_of kind (transports_of s part)
+transport-is s part kind = bound_from s (entry s 5 part kind) ∙ runs_first s part kind

@@ -1,5 +1,5 @@
 -- What is filled from its front is given back by its items, and stays filled when one more stands there. Assumes nothing.
-use Rattle.std.specs.Prelude.{ℕ, ◌+◌, ◌-◌, ◌<◌, ◌≤◌, ◌≡◌, List, ◌++◌, length, take, drop, set, replicate}
+use Rattle.std.specs.Prelude.{ℕ, ◌+◌, ◌-◌, ◌<◌, ◌≤◌, ◌≡◌, List, length, take, drop, set, replicate}
 use Rattle.std.proofs.Common.{arith, drop-drop, length-set, length-take-le, take-append-drop}
 use Rattle.std.proofs.lemmas.List.{drop-set-lt, drop-replicate}
 use Rattle.base.specs.Filled.{Filled, filled_with}

@@ -1,6 +1,6 @@
 // Lists that a driver hands over: the core has no heap, so that each is an array and how many of its places are taken. Each item has a list of its own, since
 // an array of a parameter's type is refused. A place that is not taken holds zeros, so that the items alone say what the array is, and a list can be copied.
-ghost use Rattle.std.specs.Prelude.{◌≡◌, ◌∷◌, [], ◌++◌, ◌<◌, ◌≤◌, List, ℕ, length, take};
+ghost use Rattle.std.specs.Prelude.{◌≡◌, ◌∷◌, [], ◌++◌, ◌<◌, List, ℕ, length, take};
 ghost use Rattle.base.specs.Filled.{Filled, filled_with};
 ghost use Rattle.base.proofs.FilledLaws.{given_back, taken};
 ghost use Rattle.drivers.specs.declared.LiveFader.{LiveFader};

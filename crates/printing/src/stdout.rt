@@ -1,5 +1,5 @@
 // Standard output, and what holds a text back before it goes there.
-ghost use Rattle.std.specs.Prelude.{ℕ, List, ⊤, ◌≡◌, ◌+◌, ◌≤◌, ◌++◌, [], IsOk, length, take};
+ghost use Rattle.std.specs.Prelude.{⊤, ◌≡◌, ◌+◌, ◌≤◌, ◌++◌, [], IsOk, length, take};
 ghost use Rattle.std.specs.Fmt.{WritesInCalls};
 ghost use Rattle.printing.specs.Handing.{HandsOn};
 

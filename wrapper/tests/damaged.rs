@@ -73,6 +73,6 @@ fn a_long_list_of_saved_records_is_refused_by_its_length() {
         let restored = raw::restore(&before, &PROFILE, &saved);
         assert_eq!(restored.why, 7);
         assert!(restored.session == before);
-        assert!(start.elapsed().as_millis() < 200, "{extra} bytes over: {:?}", start.elapsed());
+        assert!(start.elapsed().as_millis() < 1000, "{extra} bytes over: {:?}", start.elapsed());
     }
 }

@@ -60,7 +60,7 @@ struct Format<'a, W> {
 }
 
 impl<W: fmt::Write> Sink for Format<'_, W> {
-    // Where there is no error behind a piece, there was none before it, and the formatter has written the piece.
+    // Where there is no error behind a piece, there was none before it, and the formatter, if it has no options, has written the piece.
     ghost takes = { λ old piece new. (new.f.ghost_name ≡ old.f.ghost_name)
         × (IsOk new.result → IsOk old.result × (IsPlainFormatter old.f.now → HasWritten W.write_str_gives old.f.now piece new.f.now)) };
 
